@@ -1,0 +1,1 @@
+// Laws that the proofs of every floor cite: it has no code.
