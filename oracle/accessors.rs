@@ -1,8 +1,7 @@
+// Everything from here on is appended to a copy of the original by `oracle/build`. It calls the original's
+// private functions and reads and writes its private state; it computes nothing of its own.
 
-// Everything from here on is appended to a copy of the original by `oracle/build`. It calls the original's private
-// functions and reads and writes its private state; it computes nothing of its own.
-
-/// A clip vertex in the order of its fields: position 4, view position 3, normal 3, colour 4, texture coordinates 2.
+/// A clip vertex in the order of its fields: position 4, view position 3, normal 3, colour 4, texture 2.
 pub type VertexFloats = [f32; 16];
 
 /// A light: its switch, then ambient, diffuse, specular, emission and position, three floats each.
@@ -23,13 +22,8 @@ fn vertex_of(floats: &VertexFloats) -> ClipVertex {
 }
 
 fn floats_of(vertex: &ClipVertex) -> VertexFloats {
-    let fields: [&[f32]; 5] = [
-        &vertex.position,
-        &vertex.view_position,
-        &vertex.normal,
-        &vertex.color,
-        &vertex.uv,
-    ];
+    let fields: [&[f32]; 5] =
+        [&vertex.position, &vertex.view_position, &vertex.normal, &vertex.color, &vertex.uv];
     part(&fields.concat(), 0)
 }
 

@@ -27,6 +27,24 @@ impl Cut {
         Cut::Words,
     ];
 
+    pub fn named(name: &str) -> Result<Self, String> {
+        let found = Cut::ALL.into_iter().find(|cut| cut.name() == name);
+        found.ok_or(format!("no way of cutting {name:?}: {}", Cut::ALL.map(Cut::name).join(", ")))
+    }
+
+    pub fn name(self) -> &'static str {
+        match self {
+            Cut::Whole => "whole",
+            Cut::BeforeHeaders => "before-headers",
+            Cut::AfterHeaders => "after-headers",
+            Cut::AroundHeaders => "around-headers",
+            Cut::InsidePayloads => "inside-payloads",
+            Cut::EmptyCalls => "empty-calls",
+            Cut::Anywhere => "anywhere",
+            Cut::Words => "words",
+        }
+    }
+
     /// For streams whose subject is not the cutting: mostly a call for each command.
     pub fn usual(random: &mut Random) -> Self {
         if random.chance(60) {

@@ -6,11 +6,9 @@ use crate::random::Random;
 use crate::streams::Command;
 
 /// Values at and beyond the ends of the ranges that the commands test.
-const BOUNDARIES: [u32; 12] =
-    [0, 1, 2, 3, 7, 8, 9, 1025, 0x4000_0001, 0x7fff_ffff, 0x8000_0000, 0xffff_ffff];
+const BOUNDARIES: [u32; 12] = [0, 1, 2, 3, 7, 8, 9, 1025, 0x4000_0001, 0x7fff_ffff, 0x8000_0000, 0xffff_ffff];
 
-const UNKNOWN_OPCODES: [u8; 12] =
-    [0x03, 0x05, 0x0f, 0x10, 0x11, 0x13, 0x1c, 0x20, 0x7f, 0x80, 0x92, 0xff];
+const UNKNOWN_OPCODES: [u8; 12] = [0x03, 0x05, 0x0f, 0x10, 0x11, 0x13, 0x1c, 0x20, 0x7f, 0x80, 0x92, 0xff];
 
 /// A valid command of any kind. Flat coordinates stay on or near the screen.
 pub fn any_command(maker: &mut Maker) -> Command {

@@ -4,7 +4,7 @@ use crate::random::Random;
 
 pub type Matrix = [f32; 16];
 
-/// Zeros, subnormals, neighbours of 1 and of 2^-23, the ends of the finite range, and the values that are not finite.
+/// Zeros, subnormals, neighbours of 1 and of 2^-23, the ends of the finite range, and what is not finite.
 const SPECIAL: [u32; 20] = [
     0x0000_0000,
     0x8000_0000,
@@ -44,6 +44,12 @@ pub fn finite(random: &mut Random) -> f32 {
     } else {
         1.5
     }
+}
+
+/// Either sign, and each power of two up to the largest as likely as any other.
+pub fn any_magnitude(random: &mut Random) -> f32 {
+    let sign = random.pick(&[1.0, -1.0]);
+    sign * power_of_two(random.between(-4, 127)) * (1.0 + random.unit())
 }
 
 pub fn subnormal(random: &mut Random) -> f32 {
@@ -95,6 +101,13 @@ pub fn rotation(random: &mut Random) -> Matrix {
 pub fn orthographic() -> Matrix {
     let mut matrix = diagonal(1.0, 1.0, 0.5, 1.0);
     matrix[11] = 0.5;
+    matrix
+}
+
+/// The identity, but every depth becomes -0.0 for corners whose coordinates are all positive.
+pub fn negative_zero_depth() -> Matrix {
+    let mut matrix = identity();
+    matrix[8..12].fill(-0.0);
     matrix
 }
 

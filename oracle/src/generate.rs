@@ -1,9 +1,12 @@
-//! `oracle generate` and `oracle profiles`.
+//! `oracle generate`, `oracle profiles` and `oracle recut`.
 
 use crate::arguments::Arguments;
 use std::path::{Path, PathBuf};
+use vpu_oracle::cuts::Cut;
 use vpu_oracle::profiles::{self, Profile};
-use vpu_oracle::words::encode_calls;
+use vpu_oracle::random::Random;
+use vpu_oracle::streams::Stream;
+use vpu_oracle::words::{encode_calls, read_calls};
 
 pub fn profiles(arguments: &Arguments) -> Result<(), String> {
     arguments.expect(0, &[])?;
@@ -23,11 +26,22 @@ pub fn generate(arguments: &Arguments) -> Result<(), String> {
     for profile in chosen {
         for index in 0..count {
             let path = if one_file { out.to_path_buf() } else { inside(out, profile, seed, index)? };
-            let bytes = encode_calls(&profile.calls(seed, index));
-            std::fs::write(&path, bytes).map_err(|error| format!("{}: {error}", path.display()))?;
+            write_calls(&path, &profile.calls(seed, index))?;
         }
     }
     Ok(())
+}
+
+pub fn recut(arguments: &Arguments) -> Result<(), String> {
+    arguments.expect(1, &["cut", "seed", "out"])?;
+    let cut = Cut::named(arguments.wanted("cut")?)?;
+    let stream = Stream::framed(read_calls(arguments.plain(0))?.concat());
+    let mut random = Random::new(arguments.number("seed", 1)?);
+    write_calls(Path::new(arguments.wanted("out")?), &cut.apply(&stream, &mut random))
+}
+
+fn write_calls(path: &Path, calls: &[Vec<u32>]) -> Result<(), String> {
+    std::fs::write(path, encode_calls(calls)).map_err(|error| format!("{}: {error}", path.display()))
 }
 
 fn inside(folder: &Path, profile: &Profile, seed: u64, index: u64) -> Result<PathBuf, String> {

@@ -1,4 +1,4 @@
-//! What every tool of the oracle shares: the original with its accessors, stream files, digests and the generator.
+//! What every tool of the oracle shares: the original with its accessors, stream files, digests, the generator.
 
 pub use vpu_original as original;
 

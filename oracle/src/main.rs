@@ -15,6 +15,7 @@ const USAGE: &str = "usage:
   oracle run FILE [--dump DIR]
   oracle profiles
   oracle generate --profile P|all [--seed S] [--count N] --out DIR|FILE
+  oracle recut FILE --cut KIND [--seed S] --out FILE
   oracle share --profile P|all [--seed S] [--count N]
   oracle sums
   oracle screen-list
@@ -36,6 +37,7 @@ fn dispatch(arguments: &[String]) -> Result<(), String> {
         "run" => run::run(&rest),
         "profiles" => generate::profiles(&rest),
         "generate" => generate::generate(&rest),
+        "recut" => generate::recut(&rest),
         "share" => share::share(&rest),
         "sums" => sums::sums(&rest),
         "screen-list" => screen::list(&rest),

@@ -74,11 +74,7 @@ impl Maker {
         let centre = self.point();
         std::array::from_fn(|_| {
             let offset: [f32; 3] = self.random.floats(-size, size);
-            self.corner([
-                centre[0] + offset[0],
-                centre[1] + offset[1],
-                centre[2] + 0.25 * offset[2],
-            ])
+            self.corner([centre[0] + offset[0], centre[1] + offset[1], centre[2] + 0.25 * offset[2]])
         })
     }
 
@@ -111,8 +107,12 @@ impl Maker {
     }
 
     pub fn any_camera(&mut self) {
-        let camera =
-            self.random.pick(&[Camera::Fresh, Camera::Orthographic, Camera::Perspective, Camera::Perspective]);
+        let camera = self.random.pick(&[
+            Camera::Fresh,
+            Camera::Orthographic,
+            Camera::Perspective,
+            Camera::Perspective,
+        ]);
         self.set_camera(camera);
     }
 

@@ -5,13 +5,11 @@ use std::io::{BufWriter, Write};
 use std::path::Path;
 use vpu_oracle::digests::{depth_bytes, depth_f32_bytes, plane_bytes, Digests};
 use vpu_oracle::original::Vpu;
-use vpu_oracle::words::decode_calls;
+use vpu_oracle::words::read_calls;
 
 pub fn run(arguments: &Arguments) -> Result<(), String> {
     arguments.expect(1, &["dump"])?;
-    let file = arguments.plain(0);
-    let bytes = std::fs::read(file).map_err(|error| format!("{file}: {error}"))?;
-    let calls = decode_calls(&bytes).map_err(|error| format!("{file}: {error}"))?;
+    let calls = read_calls(arguments.plain(0))?;
     let mut vpu = Vpu::new();
     print_calls(&mut vpu, &calls).map_err(|error| error.to_string())?;
     match arguments.option("dump") {

@@ -8,10 +8,30 @@ use vpu_oracle::streams::{Command, Stream};
 
 /// Named cases first; from the sixth on, numbers of splitmix64 with seed 24.
 const FILL_COLOURS: [u32; 24] = [
-    0x0000_0000, 0xffff_ffff, 0x8080_80ff, 0x0102_0304, 0xfe01_ff80, 0xaac8_c000,
-    0xa56a_748b, 0x0724_c279, 0x90de_9a11, 0xd885_8e73, 0x811b_c007, 0xd69a_fef8,
-    0xcb58_8a01, 0x8566_d5e3, 0xef06_6f42, 0xed27_51d3, 0x2bca_ff41, 0x4677_4045,
-    0x96ee_702e, 0xc6d4_d986, 0x99b7_e431, 0x05d4_4c1a, 0x0ab6_9c71, 0x4ecf_9ee9,
+    0x0000_0000,
+    0xffff_ffff,
+    0x8080_80ff,
+    0x0102_0304,
+    0xfe01_ff80,
+    0xaac8_c000,
+    0xa56a_748b,
+    0x0724_c279,
+    0x90de_9a11,
+    0xd885_8e73,
+    0x811b_c007,
+    0xd69a_fef8,
+    0xcb58_8a01,
+    0x8566_d5e3,
+    0xef06_6f42,
+    0xed27_51d3,
+    0x2bca_ff41,
+    0x4677_4045,
+    0x96ee_702e,
+    0xc6d4_d986,
+    0x99b7_e431,
+    0x05d4_4c1a,
+    0x0ab6_9c71,
+    0x4ecf_9ee9,
 ];
 
 const PIXELS: [(usize, usize); 8] =

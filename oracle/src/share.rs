@@ -22,7 +22,12 @@ impl Count {
     }
 
     fn share(&self) -> String {
-        format!("{} of {}, {:.1} %", self.changed, self.sent, 100.0 * self.changed as f64 / self.sent.max(1) as f64)
+        format!(
+            "{} of {}, {:.1} %",
+            self.changed,
+            self.sent,
+            100.0 * self.changed as f64 / self.sent.max(1) as f64
+        )
     }
 }
 
@@ -46,6 +51,8 @@ struct Tally {
     words: u64,
     begun_at_end: u64,
     flat_beyond: u64,
+    nan_depths: u64,
+    negative_zero_depths: u64,
 }
 
 pub fn share(arguments: &Arguments) -> Result<(), String> {
@@ -101,6 +108,15 @@ impl Tally {
             count.changed += 1;
             plane.copy_from_slice(vpu.plane());
         }
+        if DRAWS.contains(&opcode) {
+            self.look_at_depths(vpu);
+        }
+    }
+
+    fn look_at_depths(&mut self, vpu: &Vpu) {
+        let depths = vpu.depth_f32();
+        self.nan_depths += depths.iter().any(|depth| depth.is_nan()) as u64;
+        self.negative_zero_depths += depths.iter().any(|depth| depth.to_bits() == 0x8000_0000) as u64;
     }
 
     /// One payload word is missing: what will the command ask of the stores, and is it inside the domain?
@@ -126,6 +142,10 @@ impl Tally {
             "  stores: at most {} words for {} textures, {} words for {} models",
             self.needs.texture_words, self.needs.textures, self.needs.model_words, self.needs.models
         );
+        println!(
+            "  draws after which a float depth is NaN: {}, is -0.0: {}",
+            self.nan_depths, self.negative_zero_depths
+        );
         print_counts(&self.counts);
     }
 }
@@ -136,15 +156,21 @@ impl Needs {
         let held = numbers.iter().filter_map(|number| vpu.texture(*number));
         let in_use: usize = held.map(|(width, height, _)| (width * height).div_ceil(2)).sum();
         self.texture_words = self.texture_words.max(in_use + new_words);
-        self.textures = self.textures.max(numbers.len() + 1);
+        self.textures = self.textures.max(held_after(&numbers, vpu.gathered()));
     }
 
     fn model(&mut self, vpu: &Vpu, new_words: usize) {
         let numbers = vpu.model_numbers();
         let in_use: usize = numbers.iter().filter_map(|number| vpu.model(*number)).map(<[u32]>::len).sum();
         self.model_words = self.model_words.max(in_use + new_words);
-        self.models = self.models.max(numbers.len() + 1);
+        self.models = self.models.max(held_after(&numbers, vpu.gathered()));
     }
+}
+
+/// How many numbers are held when the upload with this payload is accepted.
+fn held_after(numbers: &[u32], payload: &[u32]) -> usize {
+    let new = payload.first().is_some_and(|number| !numbers.contains(number));
+    numbers.len() + new as usize
 }
 
 fn draws(counts: &Counts) -> Count {

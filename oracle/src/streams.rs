@@ -1,4 +1,6 @@
-//! A stream under construction: one method for each command, in the order of the payload's words.
+//! A stream under construction: one function for each command, in the order of the payload's words.
+
+use crate::original::Vpu;
 
 #[derive(Clone, Copy)]
 pub struct Corner {
@@ -10,7 +12,7 @@ pub struct Corner {
 
 impl Corner {
     fn plain(&self) -> Vec<u32> {
-        payload(&[], &self.position, &[self.rgba])
+        [to_bits(&self.position), vec![self.rgba]].concat()
     }
 
     fn with_normal(&self) -> Vec<u32> {
@@ -22,7 +24,7 @@ impl Corner {
     }
 
     pub fn textured_lit(&self) -> Vec<u32> {
-        [to_bits(&self.position), to_bits(&self.normal), self.textured()[3..].to_vec()].concat()
+        [to_bits(&self.position), to_bits(&self.normal), to_bits(&self.uv), vec![self.rgba]].concat()
     }
 }
 
@@ -39,8 +41,8 @@ fn to_bits(floats: &[f32]) -> Vec<u32> {
     floats.iter().map(|float| float.to_bits()).collect()
 }
 
-fn payload(before: &[u32], floats: &[f32], after: &[u32]) -> Vec<u32> {
-    [before, &to_bits(floats), after].concat()
+fn payload(before: &[u32], floats: &[f32]) -> Vec<u32> {
+    [before, &to_bits(floats)].concat()
 }
 
 pub fn header(opcode: u8, count: u32) -> u32 {
@@ -66,7 +68,7 @@ impl Command {
     }
 
     pub fn matrix(index: u32, matrix: &[f32; 16]) -> Self {
-        Self::new(0x02, payload(&[index], matrix, &[]))
+        Self::new(0x02, payload(&[index], matrix))
     }
 
     pub fn clear(flags: u32, rgba: u32, unused: u32) -> Self {
@@ -84,7 +86,7 @@ impl Command {
     }
 
     pub fn light(index: u32, switch: u32, terms: &[f32; 15]) -> Self {
-        Self::new(0x15, payload(&[index, switch], terms, &[]))
+        Self::new(0x15, payload(&[index, switch], terms))
     }
 
     pub fn transformed_with_normals(triangle: &Triangle) -> Self {
@@ -92,7 +94,7 @@ impl Command {
     }
 
     pub fn texture(number: u32, width: u32, height: u32, texels: &[u32]) -> Self {
-        Self::new(0x17, payload(&[number, width, height], &[], texels))
+        Self::new(0x17, [&[number, width, height], texels].concat())
     }
 
     pub fn textured(number: u32, mode: u32, triangle: &Triangle) -> Self {
@@ -126,6 +128,19 @@ pub struct Stream {
 }
 
 impl Stream {
+    /// The stream of these words, with the headers where the original sees them.
+    pub fn framed(words: Vec<u32>) -> Self {
+        let mut vpu = Vpu::new();
+        let mut headers = Vec::new();
+        for (at, word) in words.iter().enumerate() {
+            if vpu.begun().is_none() {
+                headers.push(at);
+            }
+            vpu.feed(&[*word]);
+        }
+        Self { words, headers }
+    }
+
     pub fn send(&mut self, command: &Command) {
         self.send_header(header(command.opcode, command.payload.len() as u32));
         self.words.extend(&command.payload);

@@ -12,7 +12,7 @@ pub fn encode_calls(calls: &[Vec<u32>]) -> Vec<u8> {
     bytes
 }
 
-pub fn decode_calls(bytes: &[u8]) -> Result<Vec<Vec<u32>>, String> {
+fn decode_calls(bytes: &[u8]) -> Result<Vec<Vec<u32>>, String> {
     if bytes.len() % 4 != 0 {
         return Err(format!("{} bytes are no whole number of words", bytes.len()));
     }
@@ -29,6 +29,11 @@ pub fn decode_calls(bytes: &[u8]) -> Result<Vec<Vec<u32>>, String> {
         rest = &after[count..];
     }
     Ok(calls)
+}
+
+pub fn read_calls(file: &str) -> Result<Vec<Vec<u32>>, String> {
+    let bytes = std::fs::read(file).map_err(|error| format!("{file}: {error}"))?;
+    decode_calls(&bytes).map_err(|error| format!("{file}: {error}"))
 }
 
 pub fn parse_line(line: &str) -> Result<Vec<u32>, String> {

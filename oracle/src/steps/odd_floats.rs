@@ -1,0 +1,91 @@
+//! Floats at the ends of their range, in positions and in what comes of them.
+
+use crate::floats;
+use crate::maker::{Camera, Maker};
+use crate::streams::Command;
+
+/// One or two floats of a good triangle are replaced; the command stays well framed.
+pub fn specials(maker: &mut Maker) {
+    let mut triangle = maker.triangle_of_size(0.6);
+    for _ in 0..1 + maker.random.below(2) {
+        let value = floats::special(&mut maker.random);
+        let corner = &mut triangle[maker.random.below(3) as usize];
+        match maker.random.below(8) {
+            place @ 0..=2 => corner.position[place as usize] = value,
+            place @ 3..=5 => corner.normal[place as usize - 3] = value,
+            place => corner.uv[place as usize - 6] = value,
+        }
+    }
+    let command = maker.draw_of(&triangle);
+    maker.send(command);
+    if maker.random.chance(15) {
+        let terms = std::array::from_fn(|_| floats::finite(&mut maker.random));
+        maker.send(Command::light(7, 1, &terms));
+    }
+    if maker.random.chance(30) {
+        maker.any_setting();
+    }
+    maker.send_draws(1);
+    if maker.random.chance(25) {
+        maker.refresh();
+    }
+}
+
+/// Positions with which the original stores a NaN as depth: clipping leaves corners so far out that the area and
+/// the weights overflow.
+const NAN_DEPTH: [[[u32; 3]; 3]; 5] = [
+    [
+        [0x74a7_ab58, 0x7407_1872, 0x3dca_96b0],
+        [0xfb9e_fdcd, 0xfd53_33f5, 0x3e8b_a16c],
+        [0x6491_97c2, 0x72d4_d77b, 0x3e1c_80e8],
+    ],
+    [
+        [0xe672_62ab, 0xf2b6_1936, 0x3f1c_efb7],
+        [0x7cbb_e7be, 0x6998_be78, 0x3f6f_0921],
+        [0xe972_1dd2, 0x74aa_aa68, 0x3ed1_dc94],
+    ],
+    [
+        [0xfd34_6a88, 0xf207_a636, 0x3f09_bb51],
+        [0xed74_0d36, 0x7b5a_9e63, 0x3ec9_ce1c],
+        [0x7725_3638, 0xfa8d_6f31, 0x3f18_f840],
+    ],
+    [
+        [0x7508_b3b6, 0x6c88_35cd, 0x3f66_3dda],
+        [0x7179_7036, 0xf034_5048, 0x3eec_d5b2],
+        [0xf2a1_1f6d, 0x6591_89bf, 0x3f73_b871],
+    ],
+    [
+        [0x71e5_cb84, 0xff2e_5fe4, 0x3f35_64b1],
+        [0xf62c_5bec, 0x6a02_9700, 0x3ee5_157c],
+        [0x60b6_4850, 0x77fd_4f8f, 0x3f6a_2478],
+    ],
+];
+
+/// Depths that are NaN or -0.0, and positions of any magnitude.
+pub fn extremes(maker: &mut Maker) {
+    maker.set_camera(Camera::Fresh);
+    let mut triangle = maker.triangle_of_size(0.8);
+    let kind = maker.random.below(4);
+    let nan_depth = maker.random.pick(&NAN_DEPTH);
+    for (i, corner) in triangle.iter_mut().enumerate() {
+        corner.position = match kind {
+            0 => nan_depth[i].map(f32::from_bits),
+            1 => corner.position.map(f32::abs),
+            _ => [
+                floats::any_magnitude(&mut maker.random),
+                floats::any_magnitude(&mut maker.random),
+                maker.random.unit(),
+            ],
+        };
+    }
+    if kind == 1 {
+        maker.send(Command::matrix(2, &floats::negative_zero_depth()));
+    }
+    let command = maker.draw_of(&triangle);
+    maker.send(command);
+    maker.any_camera();
+    maker.send_draws(2);
+    if maker.random.chance(40) {
+        maker.refresh();
+    }
+}
