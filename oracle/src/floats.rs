@@ -127,12 +127,14 @@ pub fn tilted(random: &mut Random) -> Matrix {
     matrix
 }
 
-/// A determinant just under, at or just over 2^-23.
-pub fn near_singular(random: &mut Random) -> Matrix {
-    let small = f32::from_bits(0x3400_0000u32.wrapping_add(random.between(-2, 2) as u32));
-    let mut entries = [1.0, 1.0, 1.0];
-    entries[random.below(3) as usize] = small;
-    diagonal(entries[0], entries[1], entries[2], 1.0)
+/// A scaling whose determinant is just under, at or just over 2^-23, and one that undoes it.
+pub fn near_singular(random: &mut Random) -> (Matrix, Matrix) {
+    let small = f32::from_bits(0x3400_0000u32.wrapping_add(random.between(-1, 1) as u32));
+    let axis = random.below(3) as usize;
+    let (mut shrunk, mut grown) = (identity(), identity());
+    shrunk[axis * 5] = small;
+    grown[axis * 5] = power_of_two(23);
+    (shrunk, grown)
 }
 
 pub fn singular(random: &mut Random) -> Matrix {

@@ -78,13 +78,22 @@ pub fn named(name: &str) -> Result<Vec<&'static Profile>, String> {
 }
 
 impl Profile {
+    /// Some streams are short: after its first refusal a stream no longer shows later ones in the status.
+    fn steps(&self, random: &mut Random) -> u32 {
+        if random.chance(25) {
+            self.steps.min(1 + random.below(3))
+        } else {
+            self.steps
+        }
+    }
+
     /// The calls of stream number `index` under `seed`.
     pub fn calls(&self, seed: u64, index: u64) -> Vec<Vec<u32>> {
         let mut maker = Maker::new(Random::named(self.name, seed, index));
         if maker.random.chance(70) {
             maker.any_camera();
         }
-        for _ in 0..self.steps {
+        for _ in 0..self.steps(&mut maker.random) {
             (self.step)(&mut maker);
         }
         if ["damaged", "framing", "mixed"].contains(&self.name) && maker.random.chance(70) {

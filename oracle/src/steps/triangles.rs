@@ -90,36 +90,44 @@ pub fn clipping(maker: &mut Maker) {
     }
 }
 
-/// Three matrices of which one is out of the ordinary. Some pairs undo each other, so that draws still show; some
-/// give a w so large that shading mode 1 stores the depth and skips the pixel.
-fn odd_matrices(maker: &mut Maker) -> [floats::Matrix; 3] {
+/// Three matrices that undo each other, so that draws still show: a determinant near 2^-23, large and small scales, or
+/// a w so large that shading mode 1 stores the depth and skips the pixel.
+fn undoing_matrices(maker: &mut Maker) -> [floats::Matrix; 3] {
     let random = &mut maker.random;
     let exponent = random.between(5, 40);
     let (large, small) = (floats::power_of_two(exponent), floats::power_of_two(-exponent));
     let plain = floats::identity();
-    let odd = match random.below(12) {
-        0 | 1 => return [floats::scale(small), plain, floats::scale(large)],
-        2 | 3 => return [floats::scale(large), floats::scale(small), plain],
-        4 | 5 => return [plain, plain, floats::diagonal(large, large, large, large)],
-        6 => floats::near_singular(random),
-        7 => floats::singular(random),
-        8 => floats::huge(random),
-        9 => floats::filled(random, floats::subnormal),
-        10 => floats::filled(random, floats::finite),
+    match random.below(4) {
+        0 => [floats::scale(small), plain, floats::scale(large)],
+        1 => [floats::scale(large), floats::scale(small), plain],
+        2 => [plain, plain, floats::diagonal(large, large, large, large)],
+        _ => {
+            let (shrunk, grown) = floats::near_singular(random);
+            [shrunk, plain, grown]
+        }
+    }
+}
+
+/// One of the three matrices is out of the ordinary.
+fn odd_matrices(maker: &mut Maker) -> [floats::Matrix; 3] {
+    let random = &mut maker.random;
+    let mut matrices = [floats::identity(); 3];
+    matrices[random.below(3) as usize] = match random.below(5) {
+        0 => floats::singular(random),
+        1 => floats::huge(random),
+        2 => floats::filled(random, floats::subnormal),
+        3 => floats::filled(random, floats::finite),
         _ => floats::filled(random, |random| random.float(-2.0, 2.0)),
     };
-    let mut matrices = [plain; 3];
-    matrices[random.below(3) as usize] = odd;
     matrices
 }
 
 pub fn matrices(maker: &mut Maker) {
-    if maker.random.chance(30) {
-        maker.any_setting();
-    }
+    let mode = Command::shading_mode(maker.random.below(2));
+    maker.send(mode);
     maker.set_camera(Camera::Fresh);
-    let odd = odd_matrices(maker);
-    maker.set_matrices(odd);
+    let matrices = if maker.random.chance(65) { undoing_matrices(maker) } else { odd_matrices(maker) };
+    maker.set_matrices(matrices);
     let triangle = maker.triangle_of_size(0.8);
     let command = maker.draw_of(&triangle);
     maker.send(command);
