@@ -20,35 +20,34 @@ pub fn bits(float: f32) -> u32 {
     }
 }
 
-pub fn little_endian(words: impl Iterator<Item = u32>) -> impl Iterator<Item = u8> {
-    words.flat_map(u32::to_le_bytes)
+pub fn little_endian(words: &[u32]) -> Vec<u8> {
+    words.iter().flat_map(|word| word.to_le_bytes()).collect()
 }
 
-pub fn plane_bytes(vpu: &Vpu) -> impl Iterator<Item = u8> + '_ {
-    vpu.plane().iter().copied()
+pub fn depth_words(vpu: &Vpu) -> Vec<u32> {
+    vpu.depth().iter().map(|depth| *depth as u32).collect()
 }
 
-pub fn depth_bytes(vpu: &Vpu) -> impl Iterator<Item = u8> + '_ {
-    little_endian(vpu.depth().iter().map(|depth| *depth as u32))
+pub fn depth_f32_words(vpu: &Vpu) -> Vec<u32> {
+    vpu.depth_f32().iter().map(|depth| bits(*depth)).collect()
 }
 
-pub fn depth_f32_bytes(vpu: &Vpu) -> impl Iterator<Item = u8> + '_ {
-    little_endian(vpu.depth_f32().iter().map(|depth| bits(*depth)))
+fn fnv_of_words(words: &[u32]) -> u64 {
+    fnv(words.iter().flat_map(|word| word.to_le_bytes()))
 }
 
 /// One digest and the memory that it was taken of: unchanged memory is not digested again.
 #[derive(Default)]
-struct Remembered {
-    bytes: Vec<u8>,
+struct Remembered<T> {
+    memory: Vec<T>,
     digest: u64,
 }
 
-impl Remembered {
-    fn digest(&mut self, bytes: impl Iterator<Item = u8>) -> u64 {
-        let bytes: Vec<u8> = bytes.collect();
-        if bytes != self.bytes {
-            self.digest = fnv(bytes.iter().copied());
-            self.bytes = bytes;
+impl<T: PartialEq + Clone> Remembered<T> {
+    fn digest(&mut self, memory: &[T], digest: fn(&[T]) -> u64) -> u64 {
+        if memory != self.memory {
+            self.digest = digest(memory);
+            self.memory = memory.to_vec();
         }
         self.digest
     }
@@ -57,17 +56,17 @@ impl Remembered {
 /// The digests of plane, integer depths and float depths, taken after one call after another.
 #[derive(Default)]
 pub struct Digests {
-    plane: Remembered,
-    depth: Remembered,
-    depth_f32: Remembered,
+    plane: Remembered<u8>,
+    depth: Remembered<u32>,
+    depth_f32: Remembered<u32>,
 }
 
 impl Digests {
     pub fn take(&mut self, vpu: &Vpu) -> [u64; 3] {
         [
-            self.plane.digest(plane_bytes(vpu)),
-            self.depth.digest(depth_bytes(vpu)),
-            self.depth_f32.digest(depth_f32_bytes(vpu)),
+            self.plane.digest(vpu.plane(), |bytes| fnv(bytes.iter().copied())),
+            self.depth.digest(&depth_words(vpu), fnv_of_words),
+            self.depth_f32.digest(&depth_f32_words(vpu), fnv_of_words),
         ]
     }
 }

@@ -3,7 +3,7 @@
 use crate::arguments::Arguments;
 use std::io::{BufWriter, Write};
 use std::path::Path;
-use vpu_oracle::digests::{depth_bytes, depth_f32_bytes, plane_bytes, Digests};
+use vpu_oracle::digests::{depth_f32_words, depth_words, little_endian, Digests};
 use vpu_oracle::original::Vpu;
 use vpu_oracle::words::read_calls;
 
@@ -31,7 +31,7 @@ fn print_calls(vpu: &mut Vpu, calls: &[Vec<u32>]) -> std::io::Result<()> {
 
 fn dump(vpu: &Vpu, folder: &Path) -> std::io::Result<()> {
     std::fs::create_dir_all(folder)?;
-    std::fs::write(folder.join("plane"), plane_bytes(vpu).collect::<Vec<u8>>())?;
-    std::fs::write(folder.join("depth"), depth_bytes(vpu).collect::<Vec<u8>>())?;
-    std::fs::write(folder.join("depth_f32"), depth_f32_bytes(vpu).collect::<Vec<u8>>())
+    std::fs::write(folder.join("plane"), vpu.plane())?;
+    std::fs::write(folder.join("depth"), little_endian(&depth_words(vpu)))?;
+    std::fs::write(folder.join("depth_f32"), little_endian(&depth_f32_words(vpu)))
 }

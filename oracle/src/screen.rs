@@ -39,8 +39,7 @@ const PIXELS: [(usize, usize); 8] =
 
 pub fn stdin(arguments: &Arguments) -> Result<(), String> {
     arguments.expect(0, &[])?;
-    let bytes: Vec<u8> = little_endian(FILL_COLOURS.into_iter()).collect();
-    std::io::stdout().write_all(&bytes).map_err(|error| error.to_string())
+    std::io::stdout().write_all(&little_endian(&FILL_COLOURS)).map_err(|error| error.to_string())
 }
 
 pub fn list(arguments: &Arguments) -> Result<(), String> {

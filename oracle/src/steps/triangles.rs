@@ -97,10 +97,13 @@ fn undoing_matrices(maker: &mut Maker) -> [floats::Matrix; 3] {
     let exponent = random.between(5, 40);
     let (large, small) = (floats::power_of_two(exponent), floats::power_of_two(-exponent));
     let plain = floats::identity();
-    match random.below(4) {
+    match random.below(6) {
         0 => [floats::scale(small), plain, floats::scale(large)],
         1 => [floats::scale(large), floats::scale(small), plain],
-        2 => [plain, plain, floats::diagonal(large, large, large, large)],
+        2 | 3 => {
+            let w = floats::power_of_two(random.between(21, 30));
+            [plain, plain, floats::diagonal(w, w, w, w)]
+        }
         _ => {
             let (shrunk, grown) = floats::near_singular(random);
             [shrunk, plain, grown]

@@ -63,8 +63,18 @@ const ALIKE: [[u32; 6]; 4] = [
     [0xabcd_0000, 0xabcd_0001, 0xabcd_8000, 0xabcd_0040, 0xab00_0000, 0xabcd_ffff],
 ];
 
+/// Mostly the family of the first texture held, so that numbers that look alike are held together.
+fn family(maker: &mut Maker) -> [u32; 6] {
+    let any = maker.random.pick(&ALIKE);
+    let first = maker.textures.first().and_then(|held| ALIKE.iter().find(|family| family.contains(held)));
+    match first {
+        Some(family) if maker.random.chance(75) => *family,
+        _ => any,
+    }
+}
+
 pub fn numbers(maker: &mut Maker) {
-    let family = maker.random.pick(&ALIKE);
+    let family = family(maker);
     let number = maker.random.pick(&family);
     match maker.random.below(3) {
         0 => maker.upload_small_texture(number),
