@@ -129,7 +129,7 @@ pub fn tilted(random: &mut Random) -> Matrix {
 
 /// A scaling whose determinant is just under, at or just over 2^-23, and one that undoes it.
 pub fn near_singular(random: &mut Random) -> (Matrix, Matrix) {
-    let small = f32::from_bits(0x3400_0000u32.wrapping_add(random.between(-1, 1) as u32));
+    let small = f32::from_bits(random.pick(&[0x33ff_ffff, 0x3400_0000, 0x3400_0000, 0x3400_0001]));
     let axis = random.below(3) as usize;
     let (mut shrunk, mut grown) = (identity(), identity());
     shrunk[axis * 5] = small;
