@@ -18,8 +18,8 @@ pub fn any_command(maker: &mut Maker) -> Command {
         2 => Command::lighting(maker.random.below(2)),
         3 => Command::matrix(maker.random.below(3), &floats::rotation(&mut maker.random)),
         4 => maker.light(),
-        5 => maker.texture(9, 3, 3),
-        6 => maker.model(9, 2),
+        5 => maker.texture(DAMAGED_NUMBER, 3, 3),
+        6 => maker.model(DAMAGED_NUMBER, 2),
         _ => maker.any_draw(),
     }
 }
@@ -52,27 +52,25 @@ fn inside_flat_domain(opcode: u8, mut payload: Vec<u32>) -> Vec<u32> {
     payload
 }
 
-/// Uploads whose sizes are wrong, or right only after wrapping around.
-pub fn wrong_upload(maker: &mut Maker) -> Command {
-    let mut command = if maker.random.chance(50) { maker.texture(9, 2, 3) } else { maker.model(9, 1) };
-    let sizes: [(u32, u32); 8] = [
-        (0, 3),
-        (3, 0),
-        (2000, 0),
-        (1025, 1),
-        (0x10000, 0x10000),
-        (0x8000_0002, 3),
-        (0x4000_0001, 1),
-        (0xffff_ffff, 0xffff_ffff),
-    ];
-    let (first, second) = maker.random.pick(&sizes);
-    command.payload[1] = first;
-    if command.opcode == 0x17 {
-        command.payload[2] = second;
-    }
+/// The number of every upload that is made to be damaged; nothing valid is left under it for long.
+pub const DAMAGED_NUMBER: u32 = 9;
+
+/// A texture whose sides are wrong, or right only after wrapping around.
+pub fn wrong_texture(maker: &mut Maker) -> Command {
+    let sides: [[u32; 2]; 7] =
+        [[0, 3], [3, 0], [2000, 0], [1025, 1], [0x10000, 0x10000], [0x8000_0002, 3], [u32::MAX, u32::MAX]];
+    let mut command = maker.texture(DAMAGED_NUMBER, 2, 3);
+    command.payload[1..3].copy_from_slice(&maker.random.pick(&sides));
     if maker.random.chance(30) {
         command.payload.truncate(3);
     }
+    command
+}
+
+/// A model whose count is wrong; 28 times 40000001 is 28 in 32 bits.
+pub fn wrong_model(maker: &mut Maker) -> Command {
+    let mut command = maker.model(DAMAGED_NUMBER, 1);
+    command.payload[1] = maker.random.pick(&[0, 2, 0x4000_0001, 0x4000_0001, 0xc000_0001, u32::MAX]);
     command
 }
 

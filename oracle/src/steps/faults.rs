@@ -5,13 +5,13 @@ use crate::maker::Maker;
 use crate::streams::{header, Command};
 
 pub fn damaged(maker: &mut Maker) {
-    let command = if maker.random.chance(15) {
-        damage::wrong_upload(maker)
+    if maker.random.chance(12) {
+        wrong_upload(maker);
     } else {
         let valid = damage::any_command(maker);
-        damage::damaged(valid, &mut maker.random)
-    };
-    maker.send(command);
+        let command = damage::damaged(valid, &mut maker.random);
+        maker.send(command);
+    }
     if maker.random.chance(30) {
         maker.any_camera();
     }
@@ -19,6 +19,18 @@ pub fn damaged(maker: &mut Maker) {
     if maker.random.chance(30) {
         maker.refresh();
     }
+}
+
+/// A draw after it shows whether the upload was kept.
+fn wrong_upload(maker: &mut Maker) {
+    let triangle = maker.triangle_of_size(0.5);
+    let (upload, draw) = if maker.random.chance(50) {
+        (damage::wrong_texture(maker), Command::textured(damage::DAMAGED_NUMBER, 0, &triangle))
+    } else {
+        (damage::wrong_model(maker), Command::draw_model(damage::DAMAGED_NUMBER, 0))
+    };
+    maker.send(upload);
+    maker.send(draw);
 }
 
 pub fn framing(maker: &mut Maker) {

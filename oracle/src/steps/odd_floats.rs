@@ -2,7 +2,7 @@
 
 use crate::floats;
 use crate::maker::{Camera, Maker};
-use crate::streams::Command;
+use crate::streams::{Command, Triangle};
 
 /// One or two floats of a good triangle are replaced; the command stays well framed.
 pub fn specials(maker: &mut Maker) {
@@ -15,6 +15,9 @@ pub fn specials(maker: &mut Maker) {
             place @ 3..=5 => corner.normal[place as usize - 3] = value,
             place => corner.uv[place as usize - 6] = value,
         }
+    }
+    if maker.random.chance(20) {
+        tiny_normals(maker, &mut triangle);
     }
     let command = maker.draw_of(&triangle);
     maker.send(command);
@@ -29,6 +32,17 @@ pub fn specials(maker: &mut Maker) {
     if maker.random.chance(25) {
         maker.refresh();
     }
+}
+
+/// Normals about 2^-23 long, under lights that show which way they are taken to point.
+fn tiny_normals(maker: &mut Maker, triangle: &mut Triangle) {
+    let length = floats::power_of_two(maker.random.between(-25, -21));
+    for corner in triangle {
+        corner.normal = corner.normal.map(|part| part * length);
+    }
+    let light = maker.light();
+    maker.send(light);
+    maker.send(Command::lighting(1));
 }
 
 /// Positions with which the original stores a NaN as depth: clipping leaves corners so far out that the area and
