@@ -53,7 +53,7 @@ pub static PROFILES: [Profile; 20] = [
     profile("specials", steps::specials, 20,
         "zeros, subnormals, limits, infinities and NaN in positions, normals and texture coordinates"),
     profile("extremes", steps::extremes, 12,
-        "positions of any magnitude; draws that store NaN or -0.0 as a depth"),
+        "positions of any magnitude and beyond, areas near 2^-23, draws that store NaN or -0.0 as a depth"),
     profile("damaged", steps::damaged, 16,
         "every command wrong in one place: length, range, not finite, opcode, sizes that wrap"),
     profile("framing", steps::framing, 16,

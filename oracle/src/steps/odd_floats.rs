@@ -75,27 +75,54 @@ const NAN_DEPTH: [[[u32; 3]; 3]; 5] = [
     ],
 ];
 
-/// Depths that are NaN or -0.0, and positions of any magnitude.
+fn nan_depth(maker: &mut Maker) -> Triangle {
+    let positions = maker.random.pick(&NAN_DEPTH);
+    positions.map(|position| maker.corner(position.map(f32::from_bits)))
+}
+
+fn negative_zero_depth(maker: &mut Maker) -> Triangle {
+    maker.send(Command::matrix(2, &floats::negative_zero_depth()));
+    let mut triangle = maker.triangle_of_size(0.8);
+    for corner in &mut triangle {
+        corner.position = corner.position.map(f32::abs);
+    }
+    triangle
+}
+
+/// Around the centre of one pixel, with an area just under or over 2^-23.
+fn speck(maker: &mut Maker) -> Triangle {
+    let x = (maker.random.below(320) as f32 + 0.5) / 160.0 - 1.0;
+    let y = (maker.random.below(240) as f32 + 0.5) / 120.0 - 1.0;
+    let z = maker.random.unit();
+    let size = floats::power_of_two(maker.random.between(-21, -18));
+    [[x - size, y - size, z], [x + size, y - size, z], [x, y + size, z]].map(|place| maker.corner(place))
+}
+
+fn any_magnitude(maker: &mut Maker) -> Triangle {
+    std::array::from_fn(|_| {
+        let random = &mut maker.random;
+        let position = [floats::any_magnitude(random), floats::any_magnitude(random), random.unit()];
+        maker.corner(position)
+    })
+}
+
+/// Transformed positions overflow, which 19 alone lets pass.
+fn overflowing(maker: &mut Maker) -> Command {
+    maker.send(Command::matrix(2, &floats::scale(f32::MAX)));
+    let triangle = maker.triangle_of_size(1.5);
+    Command::textured_lit(maker.held_texture(), maker.mode(), &triangle)
+}
+
+/// Depths that are NaN or -0.0, areas near 2^-23, positions of any magnitude and beyond.
 pub fn extremes(maker: &mut Maker) {
     maker.set_camera(Camera::Fresh);
-    let mut triangle = maker.triangle_of_size(0.8);
-    let kind = maker.random.below(4);
-    let nan_depth = maker.random.pick(&NAN_DEPTH);
-    for (i, corner) in triangle.iter_mut().enumerate() {
-        corner.position = match kind {
-            0 => nan_depth[i].map(f32::from_bits),
-            1 => corner.position.map(f32::abs),
-            _ => [
-                floats::any_magnitude(&mut maker.random),
-                floats::any_magnitude(&mut maker.random),
-                maker.random.unit(),
-            ],
-        };
-    }
-    if kind == 1 {
-        maker.send(Command::matrix(2, &floats::negative_zero_depth()));
-    }
-    let command = maker.draw_of(&triangle);
+    let command = if maker.random.chance(15) {
+        overflowing(maker)
+    } else {
+        let make = maker.random.pick(&[nan_depth, negative_zero_depth, speck, any_magnitude]);
+        let triangle = make(maker);
+        maker.draw_of(&triangle)
+    };
     maker.send(command);
     maker.any_camera();
     maker.send_draws(2);
