@@ -1,0 +1,14 @@
+//! What every tool of the oracle shares: the original with its accessors, stream files, digests, the generator.
+
+pub use vpu_original as original;
+
+pub mod cuts;
+pub mod damage;
+pub mod digests;
+pub mod floats;
+pub mod maker;
+pub mod profiles;
+pub mod random;
+pub mod steps;
+pub mod streams;
+pub mod words;

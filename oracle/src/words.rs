@@ -1,0 +1,53 @@
+//! Words as files have them (little-endian) and as lines have them (hexadecimal).
+
+use crate::digests::bits;
+
+/// A stream file: one call after another, each a count and then that many words.
+pub fn encode_calls(calls: &[Vec<u32>]) -> Vec<u8> {
+    let mut bytes = Vec::new();
+    for call in calls {
+        bytes.extend((call.len() as u32).to_le_bytes());
+        bytes.extend(call.iter().flat_map(|word| word.to_le_bytes()));
+    }
+    bytes
+}
+
+fn decode_calls(bytes: &[u8]) -> Result<Vec<Vec<u32>>, String> {
+    if bytes.len() % 4 != 0 {
+        return Err(format!("{} bytes are no whole number of words", bytes.len()));
+    }
+    let words: Vec<u32> =
+        bytes.chunks_exact(4).map(|b| u32::from_le_bytes([b[0], b[1], b[2], b[3]])).collect();
+    let mut calls = Vec::new();
+    let mut rest = &words[..];
+    while let Some((count, after)) = rest.split_first() {
+        let count = *count as usize;
+        if count > after.len() {
+            return Err(format!("call {} wants {count} words, {} are left", calls.len(), after.len()));
+        }
+        calls.push(after[..count].to_vec());
+        rest = &after[count..];
+    }
+    Ok(calls)
+}
+
+pub fn read_calls(file: &str) -> Result<Vec<Vec<u32>>, String> {
+    let bytes = std::fs::read(file).map_err(|error| format!("{file}: {error}"))?;
+    decode_calls(&bytes).map_err(|error| format!("{file}: {error}"))
+}
+
+pub fn parse_line(line: &str) -> Result<Vec<u32>, String> {
+    line.split_whitespace()
+        .map(|text| u32::from_str_radix(text, 16).map_err(|error| format!("{text:?}: {error}")))
+        .collect()
+}
+
+pub fn word_line(words: &[u32]) -> String {
+    let texts: Vec<String> = words.iter().map(|word| format!("{word:08x}")).collect();
+    texts.join(" ")
+}
+
+pub fn float_line(floats: &[f32]) -> String {
+    let words: Vec<u32> = floats.iter().map(|float| bits(*float)).collect();
+    word_line(&words)
+}
