@@ -582,18 +582,18 @@ def byte_steps():
 
 
 def tie_roots():
-    """Digits whose root lies as near as any to the middle of two floats: m² + m - r with r small,
-    where that has 24 digits and zeros after them. m is found digit by digit."""
+    """Patterns whose root is as near as any to the middle of two floats: m² + m - r with r small,
+    where that is 24 digits and zeros after them. m is found digit by digit."""
     found = []
     for zeros in (23, 24):
-        for r in range(-60, 61, 2):
+        for r in range(-120, 121, 2):
             for m in (0, 1):
                 for k in range(1, zeros):
                     m += (m * m + m - r >> k & 1) << k
-                m += (1 << 23) if m < 1 << 23 else 0
+                m += (1 << 23) if zeros == 23 else 0
                 square = m * m + m - r
                 if square.bit_length() == 24 + zeros:
-                    found += [encode(False, square, power) for power in (-zeros, -47, -46, 1 - zeros, -170, 60)]
+                    found += [encode(False, square, power) for power in (-170, -48, -46, 0, 60)]
     return found
 
 
@@ -645,10 +645,13 @@ def digest(results):
     return h
 
 
-LINES = [(name, SCALARS[name]) for name in ("float_of", "is_finite", "clamp01", "max0", "abs", "tiny", "floor_i32")]
-LINES += [(name, SCALARS[name]) for name in ("ceil_i32", "byte", "unit_byte")]
+def named(names):
+    return [(name, SCALARS[name]) for name in names.split()]
+
+
+LINES = named("float_of is_finite clamp01 max0 abs tiny floor_i32 ceil_i32 byte unit_byte")
 LINES += [("texel%d" % side, lambda x, side=side: texel(x, side)) for side in (1, 7, 1024)]
-LINES += [(name, SCALARS[name]) for name in ("first", "past", "sqrt")]
+LINES += named("first past sqrt")
 
 
 def write_list(options):
