@@ -1,0 +1,11 @@
+pub mod Compare
+pub mod NearRoot
+pub mod Shape
+pub mod Nearest
+pub mod Values
+pub mod Cuts
+pub mod Ups
+pub mod Signs
+pub mod Boxes
+pub mod Bytes
+pub mod Examples

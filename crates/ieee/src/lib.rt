@@ -1,0 +1,7 @@
+// The leaves of float arithmetic. Each is total, and its contract says what it answers for every
+// input, NaN included.
+pub mod bits;
+pub mod cast;
+pub mod number;
+pub mod range;
+pub mod root;
