@@ -146,3 +146,28 @@ wholes-value (fin t m e) s a h = ap (λ (x : ℕ). x / down e) (h .1) ∙ mul-di
 
 pub wholes-odd : (s : Bool) (q k : ℕ) → wholes (odd 24 s q k 149) ≡ q * 2 ^ k
 wholes-odd s q k = wholes-value (odd 24 s q k 149) s (q * 2 ^ k) (odd-sign 24 s q k 149)
+
+-- ---- the root's pattern, from the digits c that are nearest
+module _ (d k z : ℕ) (lo : 2 ^ 23 ≤ d * 2 ^ z) (hi : d * 2 ^ z < 2 ^ 24) (zz : z ≤ 23) (kk : k < 254) where
+  pub root-pattern : (c : ℕ) → Near (a d k z lo hi zz) c
+      → (t d k z lo hi zz / 2 * 8388608 + c < 0x7f80_0000) × (ofBits binary32 (t d k z lo hi zz / 2 * 8388608 + c) ≡ rootWholes (d * 2 ^ k))
+  root-pattern c n =
+      let h = t d k z lo hi zz / 2 in
+      let low = digits-low d k z lo hi zz c n in
+      let high = digits-high d k z lo hi zz c n in
+      let e : h < 253 = omega arith in
+      (omega (arith, e, high), pattern h c low high (omega arith) ∙ sym (root-is d k z lo hi zz c n))
+
+-- ---- the units that a pattern stands for
+pub units-small : (b : ℕ) → b / 8388608 ≡ 0 → b % 8388608 * 2 ^ 0 ≡ wholes (ofBits binary32 b)
+units-small b e =
+    let h : b < 8388608 = omega arith in
+    let g : b % 8388608 ≡ b = omega arith in
+    ap (λ (x : ℕ). x * 2 ^ 0) g ∙ sym (wholes-odd _ b 0) ∙ ap wholes (sym (pattern-small b h))
+
+pub units-large : (b : ℕ) → 8388608 ≤ b → b < 0x7f80_0000 → (b % 8388608 + 8388608) * 2 ^ (b / 8388608 - 1) ≡ wholes (ofBits binary32 b)
+units-large b l h =
+    let k = b / 8388608 - 1 in
+    let d = b % 8388608 + 8388608 in
+    let e : k * 8388608 + d ≡ b = omega arith in
+    sym (wholes-odd _ d k) ∙ ap wholes (sym (pattern k d (omega arith) (omega arith) (omega arith)) ∙ ap (ofBits binary32) e)

@@ -121,17 +121,21 @@ float-from-bits-if2 : tie.Need-float-from-bits-if2
 unfolding nanBits
 float-from-bits-if2 c = tt
 
-float-to-bits-root-bits : tie.Need-float-to-bits-root-bits
-float-to-bits-root-bits c = number zero32 (c .before .before .args .x) (c .before .if1 .taken)
+-- its pattern, where x is a number above 0
+patterned : (c : tie.Then2) → (0 < toBits binary32 (c .before .before .args .x)) × (toBits binary32 (c .before .before .args .x) < 0x7f80_0000)
+patterned c =
+    let s = c .before .before in
+    let e = ofBits-toBits binary32 (s .args .x) (held s) in
+    range (toBits binary32 (s .args .x)) (ap (λ (y : Float). lt zero32 y) e ∙ c .before .if1 .taken) (ap (λ (y : Float). lt y top) e ∙ c .if2 .taken)
+
+float-to-bits-b : tie.Need-float-to-bits-b
+float-to-bits-b c = number zero32 (c .before .before .args .x) (c .before .if1 .taken)
 
 guess-requires : tie.Need-guess-requires
-guess-requires c κs = number zero32 (c .before .before .args .x) (c .before .if1 .taken)
+guess-requires c κs = (number zero32 (c .before .before .args .x) (c .before .if1 .taken), patterned c .1)
 
 root-bits-requires : tie.Need-root-bits-requires
-root-bits-requires c κs =
-    let s = c .before .before .before in
-    let e = ofBits-toBits binary32 (s .args .x) (held s) in
-    range (toBits binary32 (s .args .x)) (ap (λ (y : Float). lt zero32 y) e ∙ c .before .before .if1 .taken) (ap (λ (y : Float). lt y top) e ∙ c .before .if2 .taken)
+root-bits-requires c κs = patterned (c .before)
 
 float-from-bits-result : tie.Need-float-from-bits-result
 float-from-bits-result c =
@@ -154,4 +158,4 @@ returns-4 : tie.Need-returns-4
 returns-4 c = zero-by-zero ∙ root-none (c .before .before .args .x) (c .before .if1 .left) (c .if3 .left)
 
 pub sqrt-spec : {M : Type 1} → statement M
-sqrt-spec = tie.close (tie.spec float-from-bits-if2 float-to-bits-root-bits guess-requires root-bits-requires float-from-bits-result returns returns-2 returns-3 returns-4)
+sqrt-spec = tie.close (tie.spec float-from-bits-if2 float-to-bits-b guess-requires root-bits-requires float-from-bits-result returns returns-2 returns-3 returns-4)

@@ -1,5 +1,5 @@
--- `ieee::root::root_of` meets its contract: the digits and the exponent that it works out are those of the definition (`Shape.antt`). Assumes nothing.
-use mathlib.Core.Path.{_≡_, sym, subst, _∙_}
+-- `ieee::digits::root_of` meets its contract: the digits and the exponent that it works out are those of the definition (`Shape.antt`). Assumes nothing.
+use mathlib.Core.Path.{_≡_, subst}
 use Prim.Native.Nat.{ℕ, _+_, _-_, _*_, _/_, _%_, _^_, _≤_, _<_}
 use native.Mathlib.Nat.{mod-eq-of-lt}
 use native.Mathlib.Omega.{arith}
@@ -8,9 +8,9 @@ use lib.Count.{leadingZeros}
 use lib.Ieee.{binary32, ofBits}
 use Rattle.ieee.specs.Root.{rootWholes}
 use Rattle.ieee.proofs.NearRoot.{Near}
-use Rattle.ieee.proofs.Shape.{lead, a-low, a-high, root-is, digits-low, digits-high, pattern}
-use Rattle.ieee.proofs.root.root_of.Statement.{statement}
-use Rattle.ieee.proofs.root.root_of.Tie as tie
+use Rattle.ieee.proofs.Shape.{lead, a-low, a-high, digits-high, root-pattern}
+use Rattle.ieee.proofs.digits.root_of.Statement.{statement}
+use Rattle.ieee.proofs.digits.root_of.Tie as tie
 
 -- what is asked of d and k, and of the root's digits r
 module _ (d k : ℕ) (pre : (0 < d) × (d < 2 ^ 24) × (k < 254)) where
@@ -34,16 +34,11 @@ module _ (d k : ℕ) (pre : (0 < d) × (d < 2 ^ 24) × (k < 254)) where
     near-A : Near A r
     near-A = subst (λ (x : ℕ). Near x r) kept near
 
-    low : 8388608 ≤ r
-    low = digits-low d k z (up .2) (up .3) (up .1) r near-A
-
     high : r < 16777216
     high = digits-high d k z (up .2) (up .3) (up .1) r near-A
 
     value : ((126 + k - z) / 2 * 8388608 + r < 0x7f80_0000) × (ofBits binary32 ((126 + k - z) / 2 * 8388608 + r) ≡ rootWholes (d * 2 ^ k))
-    value =
-        let e : (126 + k - z) / 2 < 253 = omega (arith, pre .2) in
-        (omega (arith, e, high), pattern ((126 + k - z) / 2) r low high (omega arith) ∙ sym (root-is d k z (up .2) (up .3) (up .1) r near-A))
+    value = root-pattern d k z (up .2) (up .3) (up .1) (pre .2) r near-A
 
 sub-z : tie.Need-sub-z
 sub-z c = up (c .args .d) (c .args .k) (c .pre) .0
@@ -66,23 +61,20 @@ cast-a c = omega (arith, up (c .args .d) (c .args .k) (c .pre) .1)
 shl-a : tie.Need-shl-a
 shl-a c = omega (arith, up (c .args .d) (c .args .k) (c .pre) .1)
 
-mul-base : tie.Need-mul-base
-mul-base c = search needs
-
-guessed-requires : tie.Need-guessed-requires
-guessed-requires c κs = search needs
-
 near-root-requires : tie.Need-near-root-requires
-near-root-requires c κs = let s = shifted (c .before .args .d) (c .before .args .k) (c .before .pre) in (s .0, s .1, c .guessed .ensures)
+near-root-requires c κs = shifted (c .args .d) (c .args .k) (c .pre)
+
+mul-result : tie.Need-mul-result
+mul-result c = search needs
 
 cast-result : tie.Need-cast-result
-cast-result c = omega (arith, high (c .before .before .args .d) (c .before .before .args .k) (c .before .before .pre) (c .near-root .result) (c .near-root .ensures))
+cast-result c = omega (arith, high (c .before .args .d) (c .before .args .k) (c .before .pre) (c .near-root .result) (c .near-root .ensures))
 
 add-result : tie.Need-add-result
-add-result c = omega (arith, value (c .before .before .args .d) (c .before .before .args .k) (c .before .before .pre) (c .near-root .result) (c .near-root .ensures) .0)
+add-result c = omega (arith, value (c .before .args .d) (c .before .args .k) (c .before .pre) (c .near-root .result) (c .near-root .ensures) .0)
 
 returns : tie.Need-returns
-returns c = value (c .before .before .args .d) (c .before .before .args .k) (c .before .before .pre) (c .near-root .result) (c .near-root .ensures)
+returns c = value (c .before .args .d) (c .before .args .k) (c .before .pre) (c .near-root .result) (c .near-root .ensures)
 
 pub root-of-spec : {M : Type 1} → statement M
-root-of-spec = tie.close (tie.spec sub-z add-t sub-t add-a add-a-2 cast-a shl-a mul-base guessed-requires near-root-requires cast-result add-result returns)
+root-of-spec = tie.close (tie.spec sub-z add-t sub-t add-a add-a-2 cast-a shl-a near-root-requires mul-result cast-result add-result returns)

@@ -1,9 +1,9 @@
--- `ieee::root::lowered` meets its contract, whatever the guess was: at 0 the test fails. Assumes nothing.
+-- `ieee::digits::lowered` meets its contract, whatever the guess was: at 0 the test fails. Assumes nothing.
 use Prim.Native.Nat.{ℕ, zero, suc, _+_, _*_, _≤_, _<_}
 use native.Mathlib.Omega.{arith}
 use Rattle.ieee.proofs.NearRoot.{square-le}
-use Rattle.ieee.proofs.root.lowered.Statement.{statement}
-use Rattle.ieee.proofs.root.lowered.Tie as tie
+use Rattle.ieee.proofs.digits.lowered.Statement.{statement}
+use Rattle.ieee.proofs.digits.lowered.Tie as tie
 
 abbrev Inv-loop : tie.InvT-loop
 Inv-loop a guess r₀ r = r ≤ 16777216
