@@ -98,7 +98,7 @@ square m p = simp (mul-assoc, mul-left-comm)
 four : (a p : ℕ) → 4 * (a * p) ≡ 4 * a * p
 four a p = sym (mul-assoc 4 a p)
 
-double-square : (c : ℕ) → (c + (c + 1)) * (c + (c + 1)) ≡ 4 * (c * c + c) + 1
+pub double-square : (c : ℕ) → (c + (c + 1)) * (c + (c + 1)) ≡ 4 * (c * c + c) + 1
 double-square c = simp (add-mul, mul-add, mul-one, one-mul) (omega arith)
 
 beyond : (a c p y : ℕ) → 0 < p → a ≤ c * c + c → (c + 1) * p ≤ y → 4 * (a * (p * p)) < (c * p + y) * (c * p + y)
