@@ -2,20 +2,25 @@
 use mathlib.Core.Path.{_≡_, refl, sym, ap, _∙_}
 use mathlib.Core.Bool.{true, false}
 use Prim.Native.Nat.{ℕ, _+_, _-_, _*_, _/_, _%_, _^_, _≤_, _<_, min}
-use native.Mathlib.Nat.{mul-one, zero-mul, div-eq-of-lt, div-lt-iff-lt-mul, mul-div-mul-right, le-div-iff-mul-le, le-of-eq, lt-of-le-of-lt, lt-of-lt-of-le, mul-lt-mul-of-pos-right, mul-le-mul-left}
+use native.Mathlib.Nat.{le-trans, mul-le-mul, mul-le-mul-right, mul-one, zero-mul, div-eq-of-lt, div-lt-iff-lt-mul, mul-div-mul-right, le-div-iff-mul-le, le-of-eq, lt-of-le-of-lt, lt-of-lt-of-le, mul-lt-mul-of-pos-right, mul-le-mul-left}
 use native.Mathlib.Decide.{decLt}
 use native.Mathlib.Omega.{arith}
 use borrow.Author.Tests.{ltb-false}
+use lib.Dec.{T}
 use lib.Pow.{pow-add, pow-pos, pow-mono}
-use lib.Ieee.{Float, nan, inf, fin, binary32, up, down, odd, ofBits, lt}
+use lib.Ieee.{Float, nan, inf, fin, binary32, up, down, odd, ofBits, toBits, lt, fits}
+use lib.Ieee.Bits.{ofBits-toBits}
 use lib.Ieee.Exact.{HasValue, odd-sign}
 use lib.Ieee.Fits.{down-pos}
 use Rattle.ieee.proofs.Shape.{pattern, pattern-small, wholes-value}
+use Rattle.ieee.specs.Units.{zero32}
 use Rattle.ieee.specs.Casts.{cutOf}
+use Rattle.ieee.proofs.Above.{top, range}
 use Rattle.ieee.proofs.Compare.{differ}
 use Rattle.ieee.proofs.Cuts.{whole-part}
 
-cut-value : (x : Float) (a last : ℕ) → HasValue x false a (2 ^ 149) → cutOf x last ≡ min (a / 2 ^ 149) last
+-- what has a value in units is cut by them
+pub cut-value : (x : Float) (a last : ℕ) → HasValue x false a (2 ^ 149) → cutOf x last ≡ min (a / 2 ^ 149) last
 cut-value nan a last h = absurd h
 cut-value (inf t) a last h = absurd h
 cut-value (fin true m e) a last h = differ (h .0)
@@ -41,6 +46,18 @@ module _ (k c : ℕ) (lo : 8388608 ≤ c) (hi : c < 16777216) (top : k < 254) wh
     where
       small : (n : ℕ) → n < 256 → min n 255 ≡ n
       small n h = omega arith
+
+  fields-full : 133 ≤ k → (k ≡ 133 → 16711680 ≤ c) → 255 ≡ cutOf (ofBits binary32 (k * 8388608 + c)) 255
+  fields-full h g = most (c * 2 ^ k / 2 ^ 149) (le-div-iff-mul-le (pow-pos 149) .1 (elim (decLt 133 k) [ yes l ↦ large l | no f ↦ least (omega arith) ])) ∙ sym (by-fields 255)
+    where
+      most : (n : ℕ) → 255 ≤ n → 255 ≡ min n 255
+      most n h = omega arith
+
+      large : 133 < k → 255 * 2 ^ 149 ≤ c * 2 ^ k
+      large l = le-trans (mul-le-mul-right {m = 255} {n = 256} (2 ^ 149) (omega arith)) (mul-le-mul {n₁ = 8388608} {m₁ = 2 ^ 134} lo (pow-mono {i = 134} {j = k} l))
+
+      least : k ≡ 133 → 255 * 2 ^ 149 ≤ c * 2 ^ k
+      least e = mul-le-mul {n₁ = 16711680} {m₁ = 2 ^ 133} (g e) (pow-mono {i = 133} {j = k} h)
 
   fields-none : k ≤ 125 → cutOf (ofBits binary32 (k * 8388608 + c)) 255 ≡ 0
   fields-none h =
@@ -89,15 +106,21 @@ not-above (fin false m e) last h =
     least : (n : ℕ) → min 0 n ≡ 0
     least n = omega arith
 
-full : (n : ℕ) → 255 ≤ n → 255 ≡ min n 255
-full n h = omega arith
-
-pub not-below : (x : Float) → lt (ofBits binary32 0) x ≡ true → lt x (ofBits binary32 0x437f_0000) ≡ false → 255 ≡ cutOf x 255
+-- from 255 on, the infinity included
+pub from-255 : (v : Float) → T (fits binary32 v) → lt zero32 v ≡ true → 0x437f_0000 ≤ toBits binary32 v → 255 ≡ cutOf v 255
 unfolding lt ofBits
-not-below nan h k = differ (sym h)
-not-below (inf true) h k = differ (sym h)
-not-below (inf false) h k = refl
-not-below (fin true m e) h k = absurd (omega (arith, ltb-false 0 (m * up e * 1 + 255 * down e) k, down-pos e))
-not-below (fin false m e) h k =
-    let g : 255 ≤ m * up e / down e = le-div-iff-mul-le (down-pos e) .1 (omega (arith, ltb-false (m * up e * 1) (255 * down e) k)) in
-    full (m * up e / down e) g ∙ ap (λ (n : ℕ). min n 255) (sym (whole-part false m e))
+from-255 nan t p h = differ (sym p)
+from-255 (inf true) t p h = differ (sym p)
+from-255 (inf false) t p h = refl
+from-255 (fin true m e) t p h = differ (sym p)
+from-255 (fin false m e) t p h =
+    let x = fin false m e in
+    let b = toBits binary32 x in
+    let back = ofBits-toBits binary32 x t in
+    let r = range b (ap (λ (y : Float). lt zero32 y) back ∙ p) (ap (λ (y : Float). lt y top) back) in
+    let k = b / 8388608 - 1 in
+    let c = b % 8388608 + 8388608 in
+    let g : k * 8388608 + c ≡ b = omega (arith, r .1) in
+    fields-full k c (omega arith) (omega arith) (omega (arith, r .1)) (omega arith) (λ (e : k ≡ 133). omega arith)
+    ∙ ap (λ (n : ℕ). cutOf (ofBits binary32 n) 255) g
+    ∙ ap (λ (y : Float). cutOf y 255) back

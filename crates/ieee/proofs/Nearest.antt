@@ -3,7 +3,7 @@
 use mathlib.Core.Path.{_≡_, refl, sym, ap, subst, _∙_}
 use mathlib.Core.Bool.{Bool, true, false, cond, not, _&&_}
 use Prim.Native.Nat.{ℕ, zero, suc, _+_, _-_, _*_, _/_, _%_, _^_, _≤_, _<_}
-use native.Mathlib.Nat.{le-trans, le-of-eq, le-of-lt, le-refl, lt-of-lt-of-le, lt-of-le-of-lt, lt-of-not-le, not-le-of-lt, add-comm, add-mul, mul-add, mul-one, one-mul, mul-assoc, mul-left-comm, mul-le-mul, mul-le-mul-right, mul-lt-mul-of-pos-right, lt-of-mul-lt-mul-right, mul-pos, two-pow-succ, le-div-iff-mul-le}
+use native.Mathlib.Nat.{le-trans, le-of-eq, le-of-lt, le-refl, lt-of-lt-of-le, lt-of-le-of-lt, lt-of-not-le, not-le-of-lt, add-comm, add-mul, mul-add, mul-one, one-mul, mul-assoc, mul-left-comm, mul-le-mul, mul-le-mul-left, mul-le-mul-right, mul-lt-mul-of-pos-right, lt-of-mul-lt-mul-right, mul-pos, two-pow-succ, le-div-iff-mul-le}
 use native.Mathlib.Decide.{decLe, decLt}
 use native.Mathlib.Omega.{arith}
 use lib.Dec.{T, leb, eqb, ltb, T-not, leb→le}
@@ -157,6 +157,11 @@ module _ (d k z : ℕ) (lo : 2 ^ 23 ≤ d * 2 ^ z) (hi : d * 2 ^ z < 2 ^ 24) (zz
   root-units : wholes (rootWholes (d * 2 ^ k)) ≡ c * 2 ^ h
   root-units = ap wholes (root-is d k z lo hi zz c near) ∙ wholes-odd false c h
 
+  -- which has 24 digits
+  pub root-digits : 8388608 ≤ wholes (rootWholes (d * 2 ^ k))
+  root-digits =
+      le-trans (digits-low d k z lo hi zz c near) (le-trans (le-of-eq (sym (mul-one c))) (le-trans (mul-le-mul-left c (pow-pos h)) (le-of-eq (sym root-units))))
+
   radicand : 4 * (d * 2 ^ k * 2 ^ 149) ≡ 4 * (A * (2 ^ h * 2 ^ h))
   radicand = ap (λ (x : ℕ). 4 * x) (v-is d k z lo hi zz ∙ ap (λ (x : ℕ). A * x) (pow-add 2 h h))
 
@@ -211,7 +216,14 @@ module _ (m : ℕ) (e : ℤ) (held : T (fits binary32 (fin false (suc m) e))) wh
       subst (λ (n : ℕ). Nearer n (wholes (rootWholes n)) (wholes y)) (sym (own .2))
       (nearest (own .0) (own .1) (leadingZeros 32 (own .0) - 8) (up-by .2) (up-by .3) (up-by .1) (wholes y) (grid y h))
 
-  root-holds : T (fits binary32 (root x)) × T (plus (root x))
+  -- the root of a subnormal number is no subnormal: 2 ^ 23 units are the smallest that is not
+  pub root-normal : 8388608 ≤ wholes (root x)
+  unfolding root
+  root-normal =
+      subst (λ (n : ℕ). 8388608 ≤ wholes (rootWholes n)) (sym (own .2))
+      (root-digits (own .0) (own .1) (leadingZeros 32 (own .0) - 8) (up-by .2) (up-by .3) (up-by .1))
+
+  pub root-holds : T (fits binary32 (root x)) × T (plus (root x))
   unfolding root
   root-holds = subst (λ (n : ℕ). T (fits binary32 (rootWholes n)) × T (plus (rootWholes n))) (sym (own .2)) (root-shape (own .0) (own .1) (leadingZeros 32 (own .0) - 8) (up-by .2) (up-by .3) (up-by .1) (own .4))
 

@@ -47,21 +47,17 @@ fn whole_of(b: u32) -> u32
     (b % 0x80_0000 + 0x80_0000) >> (150 - b / 0x80_0000)
 }
 
-// By the pattern, which takes fewer steps than std's cast to a u64; `cut` stands for what the tests
-// before it leave, which is nothing.
+// By the pattern, which takes fewer steps than std's cast to a u64.
 pub fn byte(v: f32) -> u8
     ensures { λ r. ⌜ r ≡ byteOf v ⌝ }
 {
     if v > 0.0 {
-        if v < 255.0 {
-            let b = f32::to_bits(v);
-            if b < 0x3f80_0000 {
-                return 0;
-            }
-            if b < 0x437f_0000 {
-                return whole_of(b) as u8;
-            }
-            return cut(v, 255) as u8;
+        let b = f32::to_bits(v);
+        if b < 0x3f80_0000 {
+            return 0;
+        }
+        if b < 0x437f_0000 {
+            return whole_of(b) as u8;
         }
         return 255;
     }

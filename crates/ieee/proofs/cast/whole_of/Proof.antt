@@ -1,5 +1,6 @@
-use Rattle.ieee.proofs.Bytes.{whole-byte}
+-- `ieee::cast::whole_of` meets its contract (`Bytes.antt`). Assumes nothing.
 use borrow.Author.Needs.{needs}
+use Rattle.ieee.proofs.Bytes.{whole-byte}
 use Rattle.ieee.proofs.cast.whole_of.Statement.{statement}
 use Rattle.ieee.proofs.cast.whole_of.Tie as tie
 
