@@ -1,4 +1,4 @@
-// Floats to whole numbers: total, saturating, NaN gives 0. All stand on `cut` and `cut_up`.
+// Floats to whole numbers: total, saturating, NaN gives 0.
 ghost use mathlib.Core.Path.{_≡_};
 ghost use Prim.Native.Nat.{_≤_, _<_};
 ghost use lib.IntN.{pos, negℤ};

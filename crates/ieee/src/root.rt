@@ -7,10 +7,10 @@ ghost use lib.Ieee.{binary32, ofBits, isNan};
 ghost use Rattle.ieee.specs.Units.{wholes};
 ghost use Rattle.ieee.specs.Root.{root, rootWholes};
 
-// A guess at the pattern of the root of x, whose own pattern is b. y is near a multiple of 1 / √x,
-// from half the exponent and one step of Newton's method; u is then within 0.2 % of 2.018 for every
-// x, and the parabola is 1 / √u there, to one part in 2^32. The last line rounds an f64 to 24 digits.
-// Nothing is promised of the guess. It is wrong for one x in 700, and for subnormals.
+// A guess at the pattern of the root of x, whose own pattern is b. y is nearly a multiple of 1 / √x,
+// from half the exponent and one step of Newton's method: x * y * y is from 2.015 to 2.021 for every
+// x. There the parabola is one over its root, to one part in 2^32. The last line rounds an f64 to 24
+// digits. Nothing is promised of the guess. It is wrong for about one x in 700, and for subnormals.
 fn guess(x: f32, b: u32) -> u32
     requires { ⌜ T (not (isNan x)) × (b < 0x7f80_0000) ⌝ }
 {
@@ -18,8 +18,8 @@ fn guess(x: f32, b: u32) -> u32
     let p = f64::from_bits(0x43e4_0000_0000_0000 - (b as u64) * 0x1000_0000);
     let y = p * (2.3893 - w * p * p);
     let m = w * y;
-    let u = m * y - 3.3635067458;
-    let s = m * 0.064814582637 * (u * u + 9.050533485);
+    let q = m * y - 3.3635067458;
+    let s = m * 0.064814582637 * (q * q + 9.050533485);
     if s > 0.0 {
         (((f64::to_bits(s) / 0x1000_0000 + 1) / 2 + 0x4000_0000) % 0x1_0000_0000) as u32
     } else {
