@@ -2,7 +2,7 @@
 // input, NaN included.
 pub mod bits;
 pub mod cast;
-pub mod digits;
+mod digits;
 pub mod number;
 pub mod range;
 pub mod root;

@@ -7,9 +7,9 @@ ghost use lib.Ieee.{binary32, ofBits, isNan};
 ghost use Rattle.ieee.specs.Units.{wholes};
 ghost use Rattle.ieee.specs.Root.{root, rootWholes};
 
-// A guess at the pattern of the root of x, whose own pattern is b. y is nearly a multiple of 1 / √x,
-// from half the exponent and one step of Newton's method: x * y * y is from 2.015 to 2.021 for every
-// x. There the parabola is one over its root, to one part in 2^32. The last line rounds an f64 to 24
+// A guess at the pattern of the root of x, whose own pattern is b. y is nearly 1.42 / √x, by half the
+// exponent and one step of Newton's method: x * y * y is from 2.015 to 2.021, subnormals apart.
+// There the parabola is one over its root, to one part in 2^32. The last line rounds an f64 to 24
 // digits. Nothing is promised of the guess. It is wrong for about one x in 700, and for subnormals.
 fn guess(x: f32, b: u32) -> u32
     requires { ⌜ T (not (isNan x)) × (b < 0x7f80_0000) ⌝ }
