@@ -1,0 +1,16 @@
+pub mod Compare
+pub mod Patterns
+pub mod NearRoot
+pub mod Shape
+pub mod Above
+pub mod Nearest
+pub mod Special
+pub mod Values
+pub mod Cuts
+pub mod Ups
+pub mod Signs
+pub mod Bytes
+pub mod Whole
+pub mod Boxes
+pub mod Ends
+pub mod Examples

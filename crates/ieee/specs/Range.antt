@@ -1,0 +1,22 @@
+-- Floats brought to a range. Definitions only.
+use mathlib.Core.Bool.{Bool, false, cond}
+use lib.Ieee.{Float, nan, inf, fin, binary32, ofBits, lt, le}
+use Rattle.ieee.specs.Units.{zero32, one32}
+
+-- Rust's `x.clamp(0.0, 1.0)`. Document 01: "Clamp keeps NaN", since neither comparison holds of it; -0.0 stays too
+abbrev pub clampOf : Float → Float
+clampOf x = cond (lt x zero32) zero32 (cond (lt one32 x) one32 x)
+
+-- Rust's `x.max(0.0)`, with +0.0 where both are zeros. Document 01: "maximum with 0 turns it into 0"
+abbrev pub maxOf : Float → Float
+maxOf x = cond (lt zero32 x) x zero32
+
+-- Rust's `x.abs()`: the sign dropped, of a zero and of an infinity too
+abbrev pub absOf : Float → Float
+absOf nan = nan
+absOf (inf s) = inf false
+absOf (fin s m e) = fin false m e
+
+-- Rust's `x.abs() <= f32::EPSILON`: at most 2 ^ -23 in size
+abbrev pub tinyOf : Float → Bool
+tinyOf x = le (absOf x) (ofBits binary32 0x3400_0000)

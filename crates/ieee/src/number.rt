@@ -1,0 +1,26 @@
+// Integers to floats. Up to 2^24 nothing is rounded (proofs/Whole.antt).
+ghost use mathlib.Core.Path.{_≡_};
+ghost use lib.IntN.{pos};
+ghost use Prim.Native.Nat.{_<_};
+ghost use lib.Ieee.{binary32, ofInt};
+
+pub fn byte_float(b: u8) -> f32
+    ensures { λ r. ⌜ r ≡ ofInt binary32 (pos b) ⌝ }
+{
+    b as f32
+}
+
+// A column or a row: by way of u16, whose cast to a float is free.
+pub fn pixel_float(x: usize) -> f32
+    requires { ⌜ x < 320 ⌝ }
+    ensures { λ r. ⌜ r ≡ ofInt binary32 (pos x) ⌝ }
+{
+    (x as u16) as f32
+}
+
+// A texture's side, and any other u32, rounded to nearest.
+pub fn side_float(n: u32) -> f32
+    ensures { λ r. ⌜ r ≡ ofInt binary32 (pos n) ⌝ }
+{
+    std::num::nearest_u32_to_f32(n)
+}
