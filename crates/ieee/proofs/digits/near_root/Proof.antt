@@ -14,11 +14,11 @@ Inv-loop a r₀ r = (r ≤ 16777216) × (r * r < a + r)
 abbrev μ-loop : tie.MeasureT-loop
 μ-loop a r₀ r = 16777216 - r
 
-small : (a r : ℕ) → a < 281474976710656 → r ≤ 16777216 → r * r + r < a → r < 16777216
-small a r h k l = elim (eq-or-lt-of-le k) [ inl e ↦ absurd (omega (arith, subst (λ (x : ℕ). x * x + x < a) e l)) | inr g ↦ g ]
+small : (a r : ℕ) → a < 281474976710656 → r ≤ 16777216 → r * r + r ≤ a → r < 16777216
+small a r h k l = elim (eq-or-lt-of-le k) [ inl e ↦ absurd (omega (arith, subst (λ (x : ℕ). x * x + x ≤ a) e l)) | inr g ↦ g ]
 
 below : (c : tie.In-loop Inv-loop μ-loop) → c .before .loop .r < 16777216
-below c = small (c .before .before .before .before .args .a) (c .before .loop .r) (c .before .before .before .before .pre .1) (c .before .loop .inv .0) (c .loop-test .taken)
+below c = small (c .before .before .before .before .args .a) (c .before .loop .r) (c .before .before .before .before .pre .1) (c .before .loop .inv .0) (omega (arith, c .loop-test .taken))
 
 rough-requires : tie.Need-rough-requires Inv-loop μ-loop
 rough-requires c κs = c .pre .1
