@@ -4,7 +4,7 @@ ghost use mathlib.Core.Path.{_≡_};
 ghost use Prim.Native.Nat.{_*_, _%_, _^_};
 ghost use mir.Syntax.{w32};
 ghost use mir.Val.{ofZ};
-ghost use Rattle.digest.specs.Fnv.{mixed, worded, bytesFrom, wordsFrom, intsFrom};
+ghost use Rattle.digest.specs.Fnv.{mixed, worded, bytesFrom, wordsFrom, intsFrom, floatsFrom};
 
 pub const START: u64 = 14695981039346656037;
 
@@ -80,6 +80,18 @@ pub fn ints(start: u64, s: &[i32]) -> u64
     let mut i = 0;
     while i < s.len() {
         h = word(h, int_bits(s[i]));
+        i += 1;
+    }
+    h
+}
+
+pub fn floats(start: u64, s: &[f32]) -> u64
+    ensures { λ r. ⌜ r ≡ floatsFrom start (now (s .entry)) ⌝ }
+{
+    let mut h = start;
+    let mut i = 0;
+    while i < s.len() {
+        h = word(h, ieee::bits::bits_of(s[i]));
         i += 1;
     }
     h
