@@ -656,7 +656,7 @@ LINES += named("first past sqrt")
 
 def write_list(options):
     given = dict(zip(options[0::2], options[1::2]))
-    words = patterns(int(given.get("--seed", "1")), int(given.get("--count", "25000")))
+    words = patterns(int(given.get("--seed", "1")), int(given.get("--count", "100000")))
     text = "".join("%s %016x\n" % (name, digest(map(f, words))) for name, f in LINES)
     if "--stdin" in given:
         with open(given["--stdin"], "wb") as out:

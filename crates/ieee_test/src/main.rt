@@ -85,7 +85,7 @@ fn lines(bytes: &[u8]) {
 }
 
 fn main() {
-    let mut bytes = [0u8; 131072];
+    let mut bytes = [0u8; 524288];
     let got = io::read_full(STDIN_FILENO, &mut bytes);
     lines(&bytes[..got]);
 }
