@@ -142,6 +142,16 @@ module _ {A : Type 0} where
       → mid′ ≡ mid → hi′ ≡ hi → lo ≤ mid → mid ≤ hi → zs ≡ mapRange f lo hi xs
   range-next d f lo mid mid′ hi′ hi xs ys zs ey ez em eh p q = rw (ez, ey, em, eh) (range-join d f lo mid hi xs p q)
 
+  -- four calls, each for the range after the last one's
+  pub range-four : (d : A) (f : ℕ → A → A) (lo s₀ e₀ s₁ e₁ s₂ e₂ s₃ e₃ hi : ℕ) (xs ys₀ ys₁ ys₂ ys₃ : List A) → ys₀ ≡ mapRange f s₀ e₀ xs → ys₁ ≡ mapRange f s₁ e₁ ys₀
+      → ys₂ ≡ mapRange f s₂ e₂ ys₁ → ys₃ ≡ mapRange f s₃ e₃ ys₂ → s₁ ≡ e₀ → s₂ ≡ e₁ → s₃ ≡ e₂ → s₀ ≤ e₀ → e₀ ≤ e₁ → e₁ ≤ e₂ → e₂ ≤ e₃ → s₀ ≡ lo → e₃ ≡ hi
+      → ys₃ ≡ mapRange f lo hi xs
+  range-four d f lo s₀ e₀ s₁ e₁ s₂ e₂ s₃ e₃ hi xs ys₀ ys₁ ys₂ ys₃ r₀ r₁ r₂ r₃ j₁ j₂ j₃ p₀ p₁ p₂ p₃ el eh =
+      range-next d f s₀ e₂ s₃ e₃ hi xs ys₂ ys₃
+      (range-next d f s₀ e₁ s₂ e₂ e₂ xs ys₁ ys₂ (range-next d f s₀ e₀ s₁ e₁ e₁ xs ys₀ ys₁ r₀ r₁ j₁ refl p₀ p₁) r₂ j₂ refl (omega arith) p₂)
+      r₃ j₃ eh (omega arith) (omega arith)
+      ∙ ap (λ (l : ℕ). mapRange f l hi xs) el
+
   -- where a loop ends
   pub range-end : (f : ℕ → A → A) (lo hi hi′ : ℕ) (xs ys : List A) → ys ≡ mapRange f lo hi xs → hi ≡ hi′ → ys ≡ mapRange f lo hi′ xs
   range-end f lo hi hi′ xs ys e h = e ∙ ap (λ (k : ℕ). mapRange f lo k xs) h
@@ -169,7 +179,13 @@ module _ {A : Type 0} where
       (λ p q. h k p q ∙ sym (on-yes (between lo hi) g k (getD xs k d) (in-range lo hi k p q)))
       (λ e. sym (on-no (between lo hi) g k (getD xs k d) e)))
 
-  -- beyond a range
+  -- below a range, in it and beyond it
+  pub getD-under : (f : ℕ → A → A) (lo hi : ℕ) (xs : List A) (k : ℕ) (d : A) → k < length xs → k < lo → getD (mapRange f lo hi xs) k d ≡ getD xs k d
+  getD-under f lo hi xs k d l h = getD-mapAt (on (between lo hi) f) xs k d l ∙ on-no (between lo hi) f k (getD xs k d) (under lo hi k h)
+
+  pub getD-in : (f : ℕ → A → A) (lo hi : ℕ) (xs : List A) (k : ℕ) (d : A) → k < length xs → lo ≤ k → k < hi → getD (mapRange f lo hi xs) k d ≡ f k (getD xs k d)
+  getD-in f lo hi xs k d l p q = getD-mapAt (on (between lo hi) f) xs k d l ∙ on-yes (between lo hi) f k (getD xs k d) (in-range lo hi k p q)
+
   pub getD-over : (f : ℕ → A → A) (lo hi : ℕ) (xs : List A) (k : ℕ) (d : A) → k < length xs → hi ≤ k → getD (mapRange f lo hi xs) k d ≡ getD xs k d
   getD-over f lo hi xs k d l h = getD-mapAt (on (between lo hi) f) xs k d l ∙ on-no (between lo hi) f k (getD xs k d) (over lo hi k h)
 

@@ -1,0 +1,5 @@
+pub mod Pixels
+pub mod Places
+pub mod Echo
+pub mod Tile
+pub mod Cases

@@ -1,0 +1,3 @@
+pub mod Dither
+pub mod Plane
+pub mod Depths

@@ -1,0 +1,29 @@
+-- Why a word or a command was refused, and what that does to the status. Document 01, "Status bits"; the numbers are document 02's, A3. Assumes nothing.
+use Prim.Native.Nat.{ℕ}
+use mathlib.Core.Bool.{cond}
+use lib.Dec.{eqb, leb}
+use Rattle.verdict.specs.declared.Reason.{Reason}
+use Rattle.verdict.specs.declared.Reason.the-variants.{ZeroOpcode, CountTooLarge, UnknownOpcode, WrongLength, OutOfRange, NotFinite, NotHeld, NotInvertible, NoSlot, NoWords}
+use Rattle.verdict.specs.declared.Verdict.{Verdict}
+use Rattle.verdict.specs.declared.Verdict.the-variants.{Done, Refused}
+
+-- "1 zero opcode, 2 count too large, 3 unknown opcode, 4 wrong length, 5 value out of range, 6 not finite, 7 number not held, 8 matrix not invertible, 9 no slot, else 10 no words"
+abbrev pub numberOf : Reason → ℕ
+numberOf ZeroOpcode = 1
+numberOf CountTooLarge = 2
+numberOf UnknownOpcode = 3
+numberOf WrongLength = 4
+numberOf OutOfRange = 5
+numberOf NotFinite = 6
+numberOf NotHeld = 7
+numberOf NotInvertible = 8
+numberOf NoSlot = 9
+numberOf NoWords = 10
+
+-- "Status bits: 2 zero opcode; 3 refused; 6 no room": the value of the bit that a reason of this number sets
+abbrev pub bitFor : ℕ → ℕ
+bitFor n = cond (eqb n 1) 4 (cond (leb n 8) 8 64)
+
+abbrev pub bitsOf : Verdict → ℕ
+bitsOf Done = 0
+bitsOf (Refused r i) = bitFor (numberOf r)
