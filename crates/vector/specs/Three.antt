@@ -47,5 +47,5 @@ normalOf v = scaledOf v (root (dotOf v v))
 abbrev pub square : Float → Float
 square x = x · x
 
-abbrev pub power16 : Float → Float
+unfoldable pub power16 : Float → Float
 power16 x = square (square (square (square x)))
