@@ -4,9 +4,8 @@ use Prim.Native.Nat.{ℕ, zero, suc, _+_, _≤_, _<_}
 use mathlib.Core.Path.{_≡_, refl}
 use mathlib.Core.List.{List, [], _∷_}
 use native.Mathlib.Omega.{arith}
-use native.Mathlib.Numerals.{add-one}
 use lib.ListN.{length, take, drop, getD, length-drop}
-use lib.Seq.{drop-cons, length-take-le, getD-take}
+use lib.Seq.{length-take-le}
 use Rattle.clip.specs.declared.vertex.ClipVertex.{ClipVertex}
 use Rattle.clip.specs.Polygons.{fanFrom, fan}
 use Rattle.clip.specs.Vertices.{noVertex}

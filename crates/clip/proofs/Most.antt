@@ -56,6 +56,15 @@ pub most-out : (n m : ℕ) → most (suc n) m ≡ 3 * most n m / 2
 most-out zero m = refl
 most-out (suc n) m = most-out n (3 * m / 2)
 
+-- more planes can leave more
+pub most-more : (n d : ℕ) → most n 3 ≤ most (n + d) 3
+most-more n zero =
+    let e : n + zero ≡ n = omega arith in
+    rw e (omega arith)
+most-more n (suc d) =
+    let e : n + suc d ≡ suc (n + d) = omega arith in
+    rw e (omega (arith, most-more n d, most-out (n + d) 3))
+
 -- five planes leave 19 at most
 pub most-five : (n : ℕ) → n < 6 → most n 3 ≤ 19
 most-five zero h = omega arith

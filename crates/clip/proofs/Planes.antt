@@ -2,7 +2,7 @@
 -- Assumes nothing.
 use Prim.Native.Nat.{ℕ, suc, _+_, _-_, _≤_, _<_}
 use mathlib.Core.Path.{_≡_, refl, sym, ap, _∙_}
-use mathlib.Core.Bool.{true, cond}
+use mathlib.Core.Bool.{cond}
 use mathlib.Core.List.{List, [], _∷_}
 use native.Mathlib.Omega.{arith}
 use native.Mathlib.Numerals.{add-one}
@@ -11,10 +11,10 @@ use lib.ListN.{length, getD}
 use borrow.Author.Tests.{lt-ltb, le-ltb}
 use Rattle.clip.specs.declared.vertex.ClipVertex.{ClipVertex}
 use Rattle.clip.specs.declared.polygon.Polygon.{Polygon}
-use Rattle.clip.specs.Polygons.{clip, clipFrom, clipAll, whole}
+use Rattle.clip.specs.Polygons.{clip, clipFrom, clipAll, nextCut}
 use Rattle.clip.specs.Vertices.{noVertex, full, of, Holds}
-use Rattle.clip.proofs.Whole.{passed}
-use Rattle.clip.proofs.Most.{most, most-out, most-five, twice-most}
+use Rattle.clip.proofs.Whole.{next-bounds, skipped}
+use Rattle.clip.proofs.Most.{most, most-out, most-more, most-five, twice-most}
 
 -- before a plane: the polygon has as many vertices as the planes so far can have left, and the planes from there on make the answer of it
 pub record Carried (answer : List ClipVertex) (p : Polygon) (plane : ℕ) : Type 0 where
@@ -33,18 +33,6 @@ module _ {answer : List ClipVertex} {p : Polygon} {plane : ℕ} (w : Carried ans
       let n : 6 - plane ≡ suc (5 - plane) = omega arith in
       rw n at (w .rest)
 
-  -- a plane that cuts nothing
-  pub kept : whole full plane (of p) ≡ true → Carried answer p (plane + 1)
-  kept e =
-      let n : 6 - plane ≡ suc (5 - plane) = omega arith in
-      let m : 6 - (plane + 1) ≡ 5 - plane = omega arith in
-      record {
-        few = rw add-one (omega (arith, most-out plane 3, w .few));
-        many = w .many;
-        long = w .long;
-        rest = rw m (sym (passed full (5 - plane) plane (of p) (omega (arith, w .many, w .long)) e) ∙ (rw n at (w .rest)));
-      }
-
   module _ {q : Polygon} (h : Holds q (clip full plane (of p))) where
     pub carried : 3 ≤ q .count → Carried answer q (plane + 1)
     carried k =
@@ -62,6 +50,24 @@ module _ {answer : List ClipVertex} {p : Polygon} {plane : ℕ} (w : Carried ans
         let short : length (clip full plane (of p)) < 3 = omega (arith, h .long) in
         let e : [] ≡ answer = rw (lt-ltb (length (clip full plane (of p))) 3 short) at next-is in
         record { few = omega arith; long = ap length e; are = e }
+
+-- the planes up to the next that cuts something make no difference
+pub on-to : {answer : List ClipVertex} {p : Polygon} {plane next : ℕ} → Carried answer p plane → plane ≤ 6 → next ≡ nextCut full (6 - plane) plane (of p)
+    → (next ≤ 6) × Carried answer p next
+on-to {answer} {p} {plane} {next} w l e =
+    let b = next-bounds full (6 - plane) plane (of p) in
+    let low : plane ≤ next = omega arith in
+    let high : next ≤ 6 = omega arith in
+    let up : plane + (next - plane) ≡ next = omega arith in
+    let six : plane + (6 - plane) ≡ 6 = omega arith in (
+      high,
+      record {
+        few = omega (arith, w .few, rw up at (most-more plane (next - plane)));
+        many = w .many;
+        long = w .long;
+        rest = sym (rw (six, ← e) at (skipped full (6 - plane) plane (of p) (omega (arith, w .many, w .long)))) ∙ w .rest;
+      },
+    )
 
 pub done : {answer : List ClipVertex} {p : Polygon} {plane : ℕ} → Carried answer p plane → plane ≤ 6 → 6 ≤ plane → Holds p answer
 unfolding clipFrom

@@ -3,7 +3,7 @@
 use Prim.Native.Nat.{ℕ, zero, suc, _+_}
 use mathlib.Core.Bool.{Bool, true, cond, _&&_}
 use mathlib.Core.List.{List, [], _∷_, _++_}
-use lib.Dec.{ltb}
+use lib.Dec.{eqb, ltb}
 use lib.ListN.{length}
 use lib.Ieee.{Float, unlike, le}
 use Rattle.ieee.specs.Units.{zero32}
@@ -63,14 +63,16 @@ unfoldable pub fan : {X : Type 0} → List X → List (List X)
 fan [] = []
 fan (a ∷ vs) = fanFrom a vs
 
--- added: nothing is cut off these vertices by one plane, and by those from `plane` on
+-- added: a plane cuts nothing off these vertices
 unfoldable pub whole : {X : Type 0} → Kind X → ℕ → List X → Bool
 whole k plane [] = true
 whole k plane (v ∷ vs) = insideOf (k .distance plane v) && whole k plane vs
 
-unfoldable pub wholeFrom : {X : Type 0} → Kind X → ℕ → ℕ → List X → Bool
-wholeFrom k zero plane vs = true
-wholeFrom k (suc n) plane vs = whole k plane vs && wholeFrom k n (plane + 1) vs
+-- added: the first of the n planes from `plane` on that cuts something off, or the one after them
+unfoldable pub nextCut : {X : Type 0} → Kind X → ℕ → ℕ → List X → ℕ
+nextCut k zero plane vs = plane
+nextCut k (suc n) plane vs = cond (whole k plane vs) (nextCut k n (plane + 1) vs) plane
 
+-- added: none of the six does; then the triangle is drawn as it is (`inside-drawn`, proofs/Whole.antt)
 unfoldable pub allInside : {X : Type 0} → Kind X → List X → Bool
-allInside k vs = wholeFrom k 6 0 vs
+allInside k vs = eqb (nextCut k 6 0 vs) 6

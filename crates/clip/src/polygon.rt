@@ -1,66 +1,65 @@
-// Polygons go by value: 28 vertices, of which the first `count` are the polygon's.
+// A polygon goes by value: 28 vertices, of which the first `count` are its own.
 use crate::vertex::ClipVertex;
 use crate::vertex::clip_distance;
 use crate::vertex::mix_vertex;
 ghost use mathlib.Core.Path.{_≡_};
 ghost use mathlib.Core.List.{[], _∷_};
-ghost use Prim.Native.Nat.{_≤_};
-ghost use Rattle.clip.specs.Polygons.{insideOf, clip, clipAll, whole, allInside};
-ghost use Rattle.clip.specs.Vertices.{distanceOf, full, of, Holds};
+ghost use Prim.Native.Nat.{_-_, _≤_};
+ghost use Rattle.clip.specs.Polygons.{clip, clipAll, nextCut, allInside};
+ghost use Rattle.clip.specs.Vertices.{full, room, of, Holds};
+
+// What six planes can make of three vertices, however the distances round.
+pub const ROOM: usize = 28;
 
 pub struct Polygon {
-    pub vertices: [ClipVertex; 28],
+    pub vertices: [ClipVertex; ROOM],
     pub count: usize,
 }
 
-fn inside(vertex: ClipVertex, plane: usize) -> bool
-    ensures { λ r. ⌜ r ≡ insideOf (distanceOf plane (vertex .position)) ⌝ }
+// The first plane, from one on and before another, that the vertex is outside of.
+fn first_out(vertex: ClipVertex, plane: usize, stop: usize) -> usize
+    requires { ⌜ plane ≤ stop ⌝ }
+    ensures { λ r. ⌜ r ≡ nextCut full (stop - plane) plane (vertex ∷ []) ⌝ }
 {
-    clip_distance(vertex, plane) >= 0.0
-}
-
-// Whether a plane leaves a triangle as it is.
-fn keeps(a: ClipVertex, b: ClipVertex, c: ClipVertex, plane: usize) -> bool
-    ensures { λ r. ⌜ r ≡ whole full plane (a ∷ b ∷ c ∷ []) ⌝ }
-{
-    if inside(a, plane) {
-        if inside(b, plane) {
-            return inside(c, plane);
+    for p in plane..stop {
+        let inside = clip_distance(vertex, p) >= 0.0;
+        if !inside {
+            return p;
         }
     }
-    false
+    stop
 }
 
-// Whether all six do: then the triangle is drawn as it is, and its caller needs no polygon.
-pub fn all_inside(triangle: [ClipVertex; 3]) -> bool
-    ensures { λ r. ⌜ r ≡ allInside full triangle ⌝ }
+// The first of the six planes that cuts something off the triangle, or 6.
+fn first_cut(triangle: [ClipVertex; 3]) -> usize
+    ensures { λ r. ⌜ r ≡ nextCut full 6 0 triangle ⌝ }
 {
     let a = triangle[0];
     let b = triangle[1];
     let c = triangle[2];
-    for plane in 0..6 {
-        if !keeps(a, b, c, plane) {
-            return false;
-        }
-    }
-    true
+    first_out(c, 0, first_out(b, 0, first_out(a, 0, 6)))
 }
 
-// Whether a plane leaves the polygon as it is.
-fn is_whole(polygon: Polygon, plane: usize) -> bool
-    requires { ⌜ polygon .count ≤ 28 ⌝ }
-    ensures { λ r. ⌜ r ≡ whole full plane (of polygon) ⌝ }
+// Whether none does: then the triangle is drawn as it is, and its caller needs no polygon.
+pub fn all_inside(triangle: [ClipVertex; 3]) -> bool
+    ensures { λ r. ⌜ r ≡ allInside full triangle ⌝ }
+{
+    first_cut(triangle) == 6
+}
+
+// The first plane, from one on, that cuts something off the polygon, or 6.
+fn next_cut(polygon: Polygon, plane: usize) -> usize
+    requires { ⌜ polygon .count ≤ room ⌝ }
+    requires { ⌜ plane ≤ 6 ⌝ }
+    ensures { λ r. ⌜ r ≡ nextCut full (6 - plane) plane (of polygon) ⌝ }
 {
     let count = polygon.count;
-    let mut i: usize = 0;
-    while i < count {
-        let current = polygon.vertices[i];
-        if !inside(current, plane) {
-            return false;
-        }
-        i += 1;
+    let mut stop: usize = 6;
+    for i in 0..count {
+        let vertex = polygon.vertices[i];
+        stop = first_out(vertex, plane, stop);
     }
-    true
+    stop
 }
 
 // The polygon cut at one plane. Nineteen vertices become 28 at most.
@@ -108,21 +107,21 @@ pub fn clip_all(triangle: [ClipVertex; 3]) -> Polygon
     let a = triangle[0];
     let b = triangle[1];
     let c = triangle[2];
-    let mut vertices = [a; 28];
+    let mut vertices = [a; ROOM];
     vertices[1] = b;
     vertices[2] = c;
     let mut polygon = Polygon {
         vertices: vertices,
         count: 3,
     };
-    for plane in 0..6 {
-        if !is_whole(polygon, plane) {
-            polygon = clip_polygon(polygon, plane);
-            if polygon.count < 3 {
-                polygon.count = 0;
-                return polygon;
-            }
+    let mut plane = first_cut(triangle);
+    while plane < 6 {
+        polygon = clip_polygon(polygon, plane);
+        if polygon.count < 3 {
+            polygon.count = 0;
+            return polygon;
         }
+        plane = next_cut(polygon, plane + 1);
     }
     polygon
 }
