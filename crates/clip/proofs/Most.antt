@@ -1,4 +1,4 @@
--- How many vertices a plane can leave: at most 3/2 of those it is given, and 28 after six planes from three. NaN distances are outside, as in `insideOf`.
+-- How many vertices a plane can leave: at most 3/2 of those it is given, and 28 after six planes from three, however the distances round; a NaN is outside.
 -- A vertex inside weighs 1 and one outside 0. No side adds more than (3 + the weight of its end - the weight of its start) / 2 vertices: going out adds 1, coming in 2,
 -- staying in 1. Round the polygon the weights cancel.
 -- Assumes nothing.
@@ -11,6 +11,7 @@ use lib.ListN.{length, length-append}
 use lib.Dec.{ltb}
 use lib.Ieee.{unlike}
 use Rattle.clip.specs.Polygons.{Kind, insideOf, crossingOf, sideOf, sidesFrom, lastOf, clip, clipFrom, clipAll}
+use Rattle.clip.specs.Vertices.{room}
 
 abbrev pub weight : Bool → ℕ
 weight true = 1
@@ -87,6 +88,6 @@ module _ {X : Type 0} (k : Kind X) where
       kept-most (ltb (length (clip k plane vs)) 3) (clipFrom k n (plane + 1) (clip k plane vs)) (most n (3 * m / 2))
       (from-most n (plane + 1) (clip k plane vs) (3 * m / 2) (omega (arith, twice-most k plane vs)))
 
-  pub all-most : (vs : List X) → length vs ≤ 3 → length (clipAll k vs) ≤ 28
+  pub all-most : (vs : List X) → length vs ≤ 3 → length (clipAll k vs) ≤ room
   unfolding clipAll
   all-most vs h = from-most 6 0 vs 3 h

@@ -39,7 +39,7 @@ module _ {answer : List ClipVertex} {p : Polygon} {plane : ℕ} (w : Carried ans
         let n : 6 - (plane + 1) ≡ 5 - plane = omega arith in
         let many : 3 ≤ length (clip full plane (of p)) = omega (arith, h .long) in
         record {
-          few = rw (add-one) (omega (arith, most-out plane 3, twice-most full plane (of p), w .few, w .long, h .long));
+          few = rw add-one (omega (arith, most-out plane 3, twice-most full plane (of p), w .few, w .long, h .long));
           many = k;
           long = h .long ∙ sym (ap length (h .are));
           rest = rw (n, h .are) (rw (le-ltb (length (clip full plane (of p))) 3 many) at next-is);
