@@ -26,10 +26,10 @@ pub drawn-row-clear : (t : Tri) (y lo hi from to : ℕ) (D : List ℤ) (P : List
 drawn-row-clear t y lo hi from to D P b h ef et =
     drawn-clear t from to D P (λ k p q. let e : k / width ≡ y = omega arith in rw e (h (k % width) (omega arith) (omega arith)))
 
--- an area of 0 covers nothing
-pub no-area : (t : Tri) (x y : ℕ) → areaOf t ≡ pos 0 → covers t x y ≡ false
+-- an area that is neither positive nor negative covers nothing
+pub no-area : (t : Tri) (x y : ℕ) → ltZ (pos 0) (areaOf t) ≡ false → ltZ (areaOf t) (pos 0) ≡ false → covers t x y ≡ false
 unfolding covers insideOf hasArea
-no-area t x y e = rw e
+no-area t x y p q = rw (p, q)
 
 -- ---- one pixel: not covered, covered and behind, covered and nearer
 module _ (t : Tri) (x y k : ℕ) (D : List ℤ) (P : List ℕ) (hx : x < width) (is : k ≡ y * width + x) where

@@ -75,7 +75,7 @@ up-fits a0 a1 a2 z0 z1 z2 f0 f1 f2 some =
     (omega (arith, times a0 u0 l0, times a1 u1 l1, times a2 u2 l2)))
 
 -- ---- by weights that are not positive: both numbers change sign
-quot-both : (x : ℤ) (n : ℕ) → 0 < n → quotZ (negℤ x) (negℤ (pos n)) ≡ quotZ x (pos n)
+pub quot-both : (x : ℤ) (n : ℕ) → 0 < n → quotZ (negℤ x) (negℤ (pos n)) ≡ quotZ x (pos n)
 quot-both x zero h = absurd (not-suc-le-zero h)
 quot-both (pos zero) (suc n) h = rw (zero-div (suc n)) refl
 quot-both (pos (suc m)) (suc n) h = refl

@@ -4,4 +4,6 @@ pub mod Fits
 pub mod Side
 pub mod Cut
 pub mod Cell
+pub mod Turn
 pub mod Placed
+pub mod Cases

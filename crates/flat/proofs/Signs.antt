@@ -1,9 +1,9 @@
 -- What `insideOf` tells: three weights of the area's sign. Assumes nothing.
 use mathlib.Core.Path.{_≡_, refl, ap}
 use mathlib.Core.Bool.{Bool, true, false, cond, _&&_, _||_}
-use Prim.Native.Nat.{ℕ, zero, suc, _<_}
+use Prim.Native.Nat.{ℕ, suc, _<_}
 use native.Mathlib.Omega.{arith}
-use borrow.Author.Tests.{ltb-true, leb-true, lt-ltb}
+use borrow.Author.Tests.{ltb-true, leb-true}
 use lib.IntN.{ℤ, pos, negsuc, negℤ}
 use lib.Signed.{ltZ, leZ}
 use mir.Syntax.{w64}
@@ -78,30 +78,20 @@ pub divisor : (area w0 w1 w2 : ℤ) → SFits w64 area → Signs area w0 w1 w2 �
 divisor area w0 w1 w2 f (ups a0 a1 a2 e0 e1 e2 p) = positive area f p
 divisor area w0 w1 w2 f (downs a0 a1 a2 e0 e1 e2 p) = negative area f p
 
--- an area whose bits are not all 0
-pub some-area : (area : ℤ) → SFits w64 area → (ofZ w64 area ≡ 0 → ⊥) → hasArea area ≡ true
-unfolding hasArea
-some-area (pos n) f h = rw (lt-ltb 0 n (go n h)) refl
-  where
-    go : (n : ℕ) → (n ≡ 0 → ⊥) → 0 < n
-    go zero h = absurd (h refl)
-    go (suc n) h = omega arith
-some-area (negsuc n) f h = refl
+-- the three edges, one by one, where the area is positive
+module _ (area w0 w1 w2 : ℤ) (up : ltZ (pos 0) area ≡ true) where
+  pub inside-yes : leZ (pos 0) w0 ≡ true → leZ (pos 0) w1 ≡ true → leZ (pos 0) w2 ≡ true → insideOf area w0 w1 w2 ≡ true
+  unfolding insideOf hasArea agreesOf
+  inside-yes h0 h1 h2 = rw (up, h0, h1, h2)
 
--- the three edges, one by one
-module _ (area w0 w1 w2 : ℤ) (some : hasArea area ≡ true) where
-  pub inside-yes : agreesOf area w0 ≡ true → agreesOf area w1 ≡ true → agreesOf area w2 ≡ true → insideOf area w0 w1 w2 ≡ true
-  unfolding insideOf
-  inside-yes h0 h1 h2 = rw (some, h0, h1, h2)
+  pub inside-no0 : leZ (pos 0) w0 ≡ false → insideOf area w0 w1 w2 ≡ false
+  unfolding insideOf hasArea agreesOf
+  inside-no0 h0 = rw (up, h0)
 
-  pub inside-no0 : agreesOf area w0 ≡ false → insideOf area w0 w1 w2 ≡ false
-  unfolding insideOf
-  inside-no0 h0 = rw (some, h0)
+  pub inside-no1 : leZ (pos 0) w0 ≡ true → leZ (pos 0) w1 ≡ false → insideOf area w0 w1 w2 ≡ false
+  unfolding insideOf hasArea agreesOf
+  inside-no1 h0 h1 = rw (up, h0, h1)
 
-  pub inside-no1 : agreesOf area w0 ≡ true → agreesOf area w1 ≡ false → insideOf area w0 w1 w2 ≡ false
-  unfolding insideOf
-  inside-no1 h0 h1 = rw (some, h0, h1)
-
-  pub inside-no2 : agreesOf area w0 ≡ true → agreesOf area w1 ≡ true → agreesOf area w2 ≡ false → insideOf area w0 w1 w2 ≡ false
-  unfolding insideOf
-  inside-no2 h0 h1 h2 = rw (some, h0, h1, h2)
+  pub inside-no2 : leZ (pos 0) w0 ≡ true → leZ (pos 0) w1 ≡ true → leZ (pos 0) w2 ≡ false → insideOf area w0 w1 w2 ≡ false
+  unfolding insideOf hasArea agreesOf
+  inside-no2 h0 h1 h2 = rw (up, h0, h1, h2)

@@ -9,18 +9,33 @@ use Rattle.screen.specs.Plane.{width, height, planeBytes, paint}
 use Rattle.screen.specs.Draw.{pixels, Drawn}
 use Rattle.flat.specs.declared.tri.Tri.{Tri}
 use Rattle.flat.specs.declared.bounds.Bounds.{Bounds}
-use Rattle.flat.specs.Edge.{hasArea}
 use Rattle.flat.specs.Tri.{Placed, areaOf, covers, shows, depthOf}
 
 -- the pixels from lo to hi are drawn
 abbrev pub TriDrawn : Tri → ℕ → ℕ → List ℤ → List ℕ → List ℤ → List ℕ → Type 0
 TriDrawn t = Drawn (pos 0) (shows t) (depthOf t) (paint (t .color))
 
--- a triangle with its area, and buffers of these lengths
+-- the corners the other way round
+unfoldable pub turnedOf : Tri → Tri
+turnedOf t =
+    record {
+      x0 = t .x0;
+      y0 = t .y0;
+      z0 = t .z0;
+      x1 = t .x2;
+      y1 = t .y2;
+      z1 = t .z2;
+      x2 = t .x1;
+      y2 = t .y1;
+      z2 = t .z1;
+      color = t .color;
+    }
+
+-- a triangle with its area, which is positive, and buffers of these lengths
 pub record Ready (t : Tri) (area : ℤ) (plane depth : ℕ) : Type 0 where
   pub placed : Placed t
   pub is-area : area ≡ areaOf t
-  pub some-area : hasArea (areaOf t) ≡ true
+  pub upward : ltZ (pos 0) (areaOf t) ≡ true
   pub of-plane : plane ≡ planeBytes
   pub of-depth : depth ≡ pixels
 

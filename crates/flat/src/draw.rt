@@ -12,7 +12,7 @@ ghost use Rattle.screen.specs.Plane.{width, height, planeBytes};
 ghost use Rattle.screen.specs.Draw.{pixels};
 ghost use Rattle.flat.specs.Row.{edgesOf};
 ghost use Rattle.flat.specs.Tri.{Placed, weight0, weight1, weight2, covers, triDepths, triPlane};
-ghost use Rattle.flat.specs.Drawing.{Ready, Boxed, TriDrawn};
+ghost use Rattle.flat.specs.Drawing.{turnedOf, Ready, Boxed, TriDrawn};
 
 // A pixel that the triangle covers, by its edges there: it shows where it is nearer.
 fn cover(
@@ -34,7 +34,8 @@ fn cover(
 {
     let d = crate::edge::weighted(area, w0, w1, w2, t.z0, t.z1, t.z2);
     let index = y * VPU_WIDTH + x;
-    if d < depth[index] {
+    let old = depth[index];
+    if d < old {
         depth[index] = d;
         screen::plane::write_pixel(plane, x, y, t.color);
     }
@@ -56,11 +57,11 @@ fn draw_pixel(
     ensures { λ _. ⌜ TriDrawn t (y * width + x) (y * width + x + 1) (now (depth .entry)) (now (plane .entry)) (now (depth .exit)) (now (plane .exit)) ⌝ }
 {
     let w0 = crate::edge::at_column(edges.w0, x);
-    if crate::edge::agrees(area, w0) {
+    if w0 >= 0 {
         let w1 = crate::edge::at_column(edges.w1, x);
-        if crate::edge::agrees(area, w1) {
+        if w1 >= 0 {
             let w2 = crate::edge::at_column(edges.w2, x);
-            if crate::edge::agrees(area, w2) {
+            if w2 >= 0 {
                 cover(plane, depth, t, area, x, y, w0, w1, w2);
             }
         }
@@ -89,6 +90,28 @@ fn draw_rows(plane: &mut [u8], depth: &mut [i32], t: Tri, area: i64, b: Bounds)
     }
 }
 
+// The same triangle, its corners taken the other way round: its area and its edges change sign.
+fn turned(t: Tri) -> Tri
+    requires { ⌜ Placed t ⌝ }
+    ensures { λ r. ⌜ r ≡ turnedOf t ⌝ }
+{
+    let color = t.color;
+    Tri {
+        x0: t.x0,
+        y0: t.y0,
+        z0: t.z0,
+        x1: t.x2,
+        y1: t.y2,
+        z1: t.z2,
+        x2: t.x1,
+        y2: t.y1,
+        z2: t.z1,
+        color,
+    }
+}
+
+// Where the original tests edges against the sign of the area, a triangle of negative area is turned
+// first, so that inside is always where no edge is negative.
 pub fn draw_tri(plane: &mut [u8], depth: &mut [i32], t: Tri)
     requires { ⌜ Placed t ⌝ }
     requires { ⌜ length (now plane) ≡ planeBytes ⌝ }
@@ -97,7 +120,13 @@ pub fn draw_tri(plane: &mut [u8], depth: &mut [i32], t: Tri)
     ensures { λ _. ⌜ now (plane .exit) ≡ triPlane t (now (depth .entry)) (now (plane .entry)) ⌝ }
 {
     let area = crate::edge::area_of(t);
-    if area != 0 {
+    if area > 0 {
         draw_rows(plane, depth, t, area, crate::bounds::bounds_of(t));
+        return;
+    }
+    if area < 0 {
+        let back = turned(t);
+        let area = crate::edge::area_of(back);
+        draw_rows(plane, depth, back, area, crate::bounds::bounds_of(back));
     }
 }

@@ -4,7 +4,7 @@ ghost use mathlib.Core.Path.{_≡_};
 ghost use Prim.Native.Nat.{_<_};
 ghost use lib.IntN.{pos};
 ghost use Rattle.screen.specs.Plane.{width, height};
-ghost use Rattle.flat.specs.Edge.{Near, Weighed, edgeOf, agreesOf, weightedOf};
+ghost use Rattle.flat.specs.Edge.{Near, Weighed, edgeOf, weightedOf};
 ghost use Rattle.flat.specs.Row.{InRow, lineOf, onLine, edgesOf};
 ghost use Rattle.flat.specs.Tri.{Placed, areaOf};
 
@@ -65,16 +65,6 @@ pub fn edges_of(t: Tri, y: usize) -> Edges
         w1: line_of(t.x2, t.y2, t.x0, t.y0, py),
         w2: line_of(t.x0, t.y0, t.x1, t.y1, py),
     }
-}
-
-// Is an edge of the area's sign, or 0?
-pub fn agrees(area: i64, w: i64) -> bool
-    ensures { λ r. ⌜ r ≡ agreesOf area w ⌝ }
-{
-    if 0 < area {
-        return 0 <= w;
-    }
-    w <= 0
 }
 
 pub fn weighted(area: i64, w0: i64, w1: i64, w2: i64, z0: i64, z1: i64, z2: i64) -> i32

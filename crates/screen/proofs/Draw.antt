@@ -50,6 +50,17 @@ drawn-next {z} {near} {new} {ink} {lo} {mid} {mid′} {hi′} {hi} {D₀} {D₁}
     same : (j : ℕ) → mid′ * 4 ≤ j → j < hi′ * 4 → getD D₁ (j / 4) z ≡ getD D₀ (j / 4) z
     same j l u = rw (a .depth-is) (getD-over (depthStep near new) lo mid D₀ (j / 4) z (omega arith) (omega arith))
 
+-- the same drawing, said in other words
+pub drawn-swap : {Z : Type 0} {z : Z} {near near′ : ℕ → Z → Bool} {new new′ : ℕ → Z} {ink : ℕ → ℕ → ℕ} {lo hi : ℕ} {D D′ : List Z} {P P′ : List ℕ}
+    → ((k : ℕ) (old : Z) → near k old ≡ near′ k old) → ((k : ℕ) → new k ≡ new′ k)
+    → Drawn z near new ink lo hi D P D′ P′ → Drawn z near′ new′ ink lo hi D P D′ P′
+unfolding depthStep byteStep
+drawn-swap {z} {near} {near′} {new} {new′} {ink} {lo} {hi} {D} {D′} {P} {P′} e f a =
+    record {
+      depth-is = a .depth-is ∙ range-swap z (depthStep near new) (depthStep near′ new′) lo hi D (λ k p q. rw (e k (getD D k z), f k));
+      plane-is = a .plane-is ∙ range-swap 0 (byteStep z near ink D) (byteStep z near′ ink D) (lo * 4) (hi * 4) P (λ j p q. rw (e (j / 4) (getD D (j / 4) z)));
+    }
+
 -- the whole screen
 pub drawn-all : {Z : Type 0} {z : Z} {near : ℕ → Z → Bool} {new : ℕ → Z} {ink : ℕ → ℕ → ℕ} {n : ℕ} {D D′ : List Z} {P P′ : List ℕ}
     → Drawn z near new ink 0 n D P D′ P′ → length D ≤ n → length P ≤ n * 4

@@ -63,11 +63,11 @@ mul-index c = search needs
 add-index : tie.Need-add-index
 add-index c = search needs
 
-mul-if1 : tie.Need-mul-if1
-mul-if1 c = search needs
+mul-old : tie.Need-mul-old
+mul-old c = search needs
 
-slice-copy-out-if1 : tie.Need-slice-copy-out-if1
-slice-copy-out-if1 c = search needs
+slice-copy-out-old : tie.Need-slice-copy-out-old
+slice-copy-out-old c = search needs
 
 mul-d : tie.Need-mul-d
 mul-d c = search needs
@@ -94,7 +94,7 @@ returns c =
     let D = a .depth .now in
     let d = w .weighted .result in
     let fd : SFits w32 d = sfits-of (w .weighted .ok) in
-    let fo : SFits w32 (getD D k (pos 0)) = sfits-of (then1 .before .if12 .given) in
+    let fo : SFits w32 (getD D k (pos 0)) = sfits-of (then1 .before .old .given) in
     let n : ltZ d (getD D k (pos 0)) ≡ true = simp toZ-ofZ at (then1 .if1 .taken) in
     rw (toZ-ofZ w32 d fd)
     (drawn-new (a .t) (a .x) (a .y) k D (a .plane .now) (s .pre .1 .0 .0) refl (s .pre .1 .1 .0) d _ (is-depth w) n (omega (arith, s .pre .0 .of-depth, s .pre .1 .0 .0, s .pre .1 .0 .1)) (c .before .before .write-pixel .ensures))
@@ -108,7 +108,7 @@ returns-2 c =
     let D = a .depth .now in
     let d = w .weighted .result in
     let fd : SFits w32 d = sfits-of (w .weighted .ok) in
-    let fo : SFits w32 (getD D k (pos 0)) = sfits-of (c .before .if12 .given) in
+    let fo : SFits w32 (getD D k (pos 0)) = sfits-of (c .before .old .given) in
     let n : ltZ d (getD D k (pos 0)) ≡ false = simp toZ-ofZ at (c .if1 .left) in
     drawn-behind (a .t) (a .x) (a .y) k D (a .plane .now) (s .pre .1 .0 .0) refl (s .pre .1 .1 .0) (rw (← is-depth w) n)
 
@@ -119,8 +119,8 @@ cover-spec =
     weighted-requires
     mul-index
     add-index
-    mul-if1
-    slice-copy-out-if1
+    mul-old
+    slice-copy-out-old
     mul-d
     slice-set-from-d
     write-pixel-requires

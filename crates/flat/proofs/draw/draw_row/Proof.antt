@@ -35,7 +35,7 @@ draw-pixel-requires c κs =
     let turn = c .before .before in
     let loop = turn .before in
     let s = loop .before .before .before in (
-      record { placed = s .pre .0 .placed; is-area = toZ-ofZ w64 (s .args .area) (s .fits .area) ∙ s .pre .0 .is-area; some-area = s .pre .0 .some-area; of-plane = loop .loop .inv .1; of-depth = loop .loop .inv .2 },
+      record { placed = s .pre .0 .placed; is-area = toZ-ofZ w64 (s .args .area) (s .fits .area) ∙ s .pre .0 .is-area; upward = s .pre .0 .upward; of-plane = loop .loop .inv .1; of-depth = loop .loop .inv .2 },
       ((omega (arith, turn .loop-test .taken, s .pre .1 .0 .on-right), s .pre .1 .1), loop .before .edges-of .ensures),
     )
 
