@@ -1,7 +1,7 @@
 -- Document 01, "Numbers to be proved", cases 6 to 10, of the command's own definitions over its words; what it leaves at each place; and that its contract
 -- admits one outcome alone. Assumes nothing.
 use mathlib.Core.Path.{_≡_, refl, sym, ap, _∙_}
-use mathlib.Core.Bool.{Bool, true, false, cond, _&&_, and-false}
+use mathlib.Core.Bool.{Bool, true, false, cond, and-false}
 use mathlib.Core.List.{List, [], _∷_}
 use Prim.Native.Nat.{ℕ, zero, suc, _+_, _*_, _/_, _%_, _<_, _≤_}
 use native.Mathlib.Nat.{zero-add, suc-add}
@@ -15,7 +15,6 @@ use Rattle.laws.proofs.Ring.{ring, var, add, mul}
 use Rattle.screen.specs.Plane.{width, planeBytes, paint}
 use Rattle.screen.specs.Draw.{pixels, depthStep, byteStep}
 use Rattle.screen.specs.Depths.{farInts}
-use Rattle.screen.specs.declared.plane.Rgba.{Rgba}
 use Rattle.verdict.specs.declared.Reason.the-variants.{OutOfRange}
 use Rattle.verdict.specs.declared.Verdict.{Verdict}
 use Rattle.verdict.specs.declared.Verdict.the-variants.{Done, Refused}

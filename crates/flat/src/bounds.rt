@@ -7,7 +7,7 @@ ghost use mathlib.Core.Bool.{true};
 ghost use Prim.Native.Nat.{ℕ, _<_, _≤_};
 ghost use lib.IntN.{pos};
 ghost use lib.Signed.{ltZ};
-ghost use Rattle.screen.specs.Plane.{width, height};
+ghost use Rattle.screen.specs.Plane.{width};
 ghost use Rattle.flat.specs.Tri.{Placed};
 ghost use Rattle.flat.specs.Drawing.{Before, Beyond, Boxed};
 
