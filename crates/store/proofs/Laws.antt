@@ -8,7 +8,7 @@ use native.Mathlib.Omega.{arith}
 use lib.ListN.{length, length-append}
 use lib.Dec.{eqb, leb, ltb}
 use borrow.Author.Tests.{eqb-true, eqb-false, ne-eqb, leb-false, ltb-false}
-use Rattle.store.specs.Uploads.{Upload, Whole, Card, card, cards, without, find, isSome, holds, wordsOf, total, stored, live, counted, room, Apart, All}
+use Rattle.store.specs.Uploads.{Upload, Whole, Card, card, cards, without, find, isSome, holds, wordsOf, total, stored, live, counted, room}
 use Rattle.store.specs.Slots.{isFits}
 use Rattle.store.specs.declared.Room.{Room}
 use Rattle.store.specs.declared.Room.the-variants.{Fits, NoSlot, NoWords}
@@ -24,6 +24,16 @@ eqb-sym-false : (a b : ℕ) → eqb a b ≡ false → eqb b a ≡ false
 eqb-sym-false a b e = ne-eqb b a λ p. eqb-false a b e (sym p)
 
 module _ {W : Type 0} where
+  -- no number stands twice
+  abbrev pub Apart : List (Upload W) → Type 0
+  Apart [] = Unit {0}
+  Apart (u ∷ us) = (holds (u .number) us ≡ false) × Apart us
+
+  -- P of each
+  abbrev pub All : (Upload W → Type 0) → List (Upload W) → Type 0
+  All P [] = Unit {0}
+  All P (u ∷ us) = P u × All P us
+
   -- what stands under n once u is stored: u itself, or what stood there
   pub find-stored : (n : ℕ) (u : Upload W) (us : List (Upload W)) → find n (stored u us) ≡ cond (eqb (u .number) n) (some u) (find n us)
   find-stored n u [] = refl

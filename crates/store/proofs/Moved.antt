@@ -10,13 +10,13 @@ use lib.ListN.{length, take, drop, replicate}
 use lib.Seq.{take-at, drop-at, drop-drop, paste}
 use lib.Dec.{eqb}
 use borrow.Author.Tests.{eqb-true}
-use Rattle.store.specs.Uploads.{Whole, Card, card, cards, without, find, isSome, holds, wordsOf, total, Apart}
+use Rattle.store.specs.Uploads.{Whole, Card, card, cards, without, find, isSome, holds, wordsOf, total}
 use Rattle.store.specs.Slots.{areaOf, sidesOk, noSlot, slotOf, place, told, uploadAt, view, slotFor, looked, over, wordsAfter, slotsOk}
 use Rattle.store.specs.declared.Slot.{Slot}
 use Rattle.store.specs.declared.Kind.{Kind}
 use Rattle.store.specs.declared.Found.{Found}
 use Rattle.store.specs.declared.Found.the-variants.{At, Nothing}
-use Rattle.store.proofs.Laws.{without-none, all-mid, cards-append, cards-without, total-append, wordsOf-append, length-wordsOf}
+use Rattle.store.proofs.Laws.{Apart, without-none, all-mid, cards-append, cards-without, total-append, wordsOf-append, length-wordsOf}
 use Rattle.store.proofs.Walk.{none-holds}
 use Rattle.store.proofs.Held.{Sized, Rep, ok-rep, view-told}
 

@@ -1,7 +1,6 @@
 -- Document 01, "The stores", over plain lists: what is held, in the order of the areas, and what a whole history of accepted uploads leaves.
 -- No slot and no place: one text for both kinds. Assumes nothing.
 use Prim.Native.Nat.{ℕ, _+_}
-use mathlib.Core.Path.{_≡_}
 use mathlib.Core.Bool.{Bool, true, false, cond, not, _&&_}
 use mathlib.Core.Option.{Option, none, some}
 use mathlib.Core.List.{List, [], _∷_, _++_, map}
@@ -58,15 +57,6 @@ module _ {W : Type 0} where
   live [] = []
   live (u ∷ h) = stored u (live h)
 
-  -- "with different numbers"
-  abbrev pub Apart : List (Upload W) → Type 0
-  Apart [] = Unit {0}
-  Apart (u ∷ us) = (holds (u .number) us ≡ false) × Apart us
-
-  abbrev pub All : (Upload W → Type 0) → List (Upload W) → Type 0
-  All P [] = Unit {0}
-  All P (u ∷ us) = P u × All P us
-
 -- their words, one after the other, and how many those are
 abbrev pub wordsOf : List Whole → List ℕ
 wordsOf [] = []
@@ -75,6 +65,10 @@ wordsOf (u ∷ us) = u .words ++ wordsOf us
 abbrev pub total : List Card → ℕ
 total [] = 0
 total (c ∷ cs) = c .words + total cs
+
+-- "a texture store and a model store, each 0 to 16,777,216 words"
+abbrev pub mostWords : ℕ
+mostWords = 16777216
 
 -- "64 slots each"
 abbrev pub slotCount : ℕ

@@ -6,7 +6,12 @@ use crate::slots::area;
 ghost use mathlib.Core.Path.{_≡_};
 ghost use Prim.Native.Nat.{_≤_};
 ghost use lib.ListN.{drop};
+ghost use Rattle.store.specs.Uploads.{slotCount};
 ghost use Rattle.store.specs.Slots.{sidesOk, slotsOk, fresh, zeroSlot, unused};
+
+const MOST_SIDE: u32 = 1024;
+
+const MOST_COUNT: u32 = 18724;
 
 pub fn sides_ok(kind: Kind, width: u32, height: u32) -> bool
     ensures { λ r. ⌜ r ≡ sidesOk kind width height ⌝ }
@@ -16,19 +21,19 @@ pub fn sides_ok(kind: Kind, width: u32, height: u32) -> bool
             if width < 1 {
                 return false;
             }
-            if 1024 < width {
+            if MOST_SIDE < width {
                 return false;
             }
             if height < 1 {
                 return false;
             }
-            height <= 1024
+            height <= MOST_SIDE
         }
         Kind::Model => {
             if width < 1 {
                 return false;
             }
-            if 18724 < width {
+            if MOST_COUNT < width {
                 return false;
             }
             height == 0
@@ -38,7 +43,7 @@ pub fn sides_ok(kind: Kind, width: u32, height: u32) -> bool
 
 // Has none of the held slots from index `from` on this number?
 fn fresh_from(slots: [Slot; SLOTS], from: usize, number: u32) -> bool
-    requires { ⌜ from ≤ 64 ⌝ }
+    requires { ⌜ from ≤ slotCount ⌝ }
     ensures { λ r. ⌜ r ≡ fresh number (drop from slots) ⌝ }
 {
     let mut i = from;
@@ -74,7 +79,7 @@ fn zero_slot(s: Slot) -> bool
 }
 
 fn unused_from(slots: [Slot; SLOTS], from: usize) -> bool
-    requires { ⌜ from ≤ 64 ⌝ }
+    requires { ⌜ from ≤ slotCount ⌝ }
     ensures { λ r. ⌜ r ≡ unused (drop from slots) ⌝ }
 {
     let mut i = from;

@@ -9,6 +9,7 @@ ghost use mathlib.Core.Path.{_≡_};
 ghost use mathlib.Core.Bool.{true};
 ghost use Prim.Native.Nat.{_≤_};
 ghost use lib.ListN.{length};
+ghost use Rattle.store.specs.Uploads.{mostWords};
 ghost use Rattle.store.specs.Slots.{areaOf, sidesOk, slotsOk, isFits, Uploaded, wholeOf};
 
 pub const SLOTS: usize = 64;
@@ -70,7 +71,7 @@ pub fn upload(
     words: &[u32],
 ) -> Stored
     requires { ⌜ slotsOk kind (length (now store)) 0 slots ≡ true ⌝ }
-    requires { ⌜ length (now store) ≤ 16777216 ⌝ }
+    requires { ⌜ length (now store) ≤ mostWords ⌝ }
     requires { ⌜ sidesOk kind width height ≡ true ⌝ }
     requires { ⌜ length (now words) ≡ areaOf kind width height ⌝ }
     ensures { λ r. ⌜ Uploaded kind slots (now (store .entry)) (wholeOf number width height (now (words .entry))) r (now (store .exit)) ⌝ }

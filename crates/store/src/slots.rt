@@ -7,7 +7,7 @@ use crate::Slot;
 ghost use mathlib.Core.Path.{_≡_};
 ghost use Prim.Native.Nat.{_+_, _≤_, _<_};
 ghost use lib.ListN.{length};
-ghost use Rattle.store.specs.Uploads.{without, total, slotCount, room};
+ghost use Rattle.store.specs.Uploads.{without, total, mostWords, slotCount, room};
 ghost use Rattle.store.specs.Slots.{areaOf, told, slotFor, slotsOf, slotsAfter, cardOf, stays};
 
 // The held slot with this number.
@@ -46,7 +46,7 @@ pub struct Usage {
 }
 
 pub fn in_use(kind: Kind, slots: [Slot; SLOTS]) -> Usage
-    requires { ⌜ total (told kind slots) ≤ 16777216 ⌝ }
+    requires { ⌜ total (told kind slots) ≤ mostWords ⌝ }
     ensures { λ r. ⌜ (r .count ≡ length (told kind slots)) × (r .total ≡ total (told kind slots)) ⌝ }
 {
     let mut i = 0;
@@ -65,8 +65,8 @@ pub fn in_use(kind: Kind, slots: [Slot; SLOTS]) -> Usage
 
 // Is there room for so many words under this number, in a store of `size` words?
 pub fn room_for(kind: Kind, slots: [Slot; SLOTS], size: usize, number: u32, words: usize) -> Room
-    requires { ⌜ total (told kind slots) ≤ 16777216 ⌝ }
-    requires { ⌜ words ≤ 16777216 ⌝ }
+    requires { ⌜ total (told kind slots) ≤ mostWords ⌝ }
+    requires { ⌜ words ≤ mostWords ⌝ }
     ensures { λ r. ⌜ r ≡ room size (told kind slots) number words ⌝ }
 {
     let used = in_use(kind, slots);
@@ -100,7 +100,7 @@ pub struct Left {
 }
 
 fn others(kind: Kind, slots: [Slot; SLOTS], number: u32) -> Left
-    requires { ⌜ total (told kind slots) ≤ 16777216 ⌝ }
+    requires { ⌜ total (told kind slots) ≤ mostWords ⌝ }
     ensures { λ r. ⌜ r .slots ≡ slotsOf (without number (told kind slots)) ⌝ }
     ensures { λ r. ⌜ (r .count ≡ length (without number (told kind slots))) × (r .total ≡ total (without number (told kind slots))) ⌝ }
 {
@@ -144,7 +144,7 @@ pub fn slots_after(
     width: u32,
     height: u32,
 ) -> [Slot; SLOTS]
-    requires { ⌜ total (told kind slots) ≤ 16777216 ⌝ }
+    requires { ⌜ total (told kind slots) ≤ mostWords ⌝ }
     requires { ⌜ length (without number (told kind slots)) < slotCount ⌝ }
     ensures { λ r. ⌜ r ≡ slotsAfter (cardOf kind number width height) (told kind slots) ⌝ }
 {

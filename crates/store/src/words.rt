@@ -13,7 +13,7 @@ ghost use Prim.Native.Nat.{_+_, _-_, _≤_};
 ghost use mathlib.Core.List.{_++_};
 ghost use lib.ListN.{length, take, drop, replicate};
 ghost use lib.Seq.{paste};
-ghost use Rattle.store.specs.Uploads.{without, total};
+ghost use Rattle.store.specs.Uploads.{without, total, mostWords};
 ghost use Rattle.store.specs.Slots.{told, view, over, wordsAfter, slotsOk};
 
 // The words from `from` up to `end` stand from `to` on afterwards, each moved once; the rest stays.
@@ -72,7 +72,7 @@ fn put_last(store: &mut [u32], at: usize, words: &[u32], old: usize)
 // up, each moved once, and the new ones stand last.
 pub fn put(kind: Kind, slots: [Slot; SLOTS], store: &mut [u32], number: u32, words: &[u32])
     requires { ⌜ slotsOk kind (length (now store)) 0 slots ≡ true ⌝ }
-    requires { ⌜ length (now store) ≤ 16777216 ⌝ }
+    requires { ⌜ length (now store) ≤ mostWords ⌝ }
     requires { ⌜ total (without number (told kind slots)) + length (now words) ≤ length (now store) ⌝ }
     ensures { λ _. ⌜ now (store .exit) ≡ wordsAfter number (now (words .entry)) (view kind slots (now (store .entry))) (now (store .entry)) ⌝ }
 {

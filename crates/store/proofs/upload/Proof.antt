@@ -6,7 +6,7 @@ use native.Mathlib.Omega.{arith}
 use borrow.Author.Needs.{needs}
 use borrow.Author.Tests.{not-true, not-false}
 use lib.ListN.{length}
-use Rattle.store.specs.Uploads.{total}
+use Rattle.store.specs.Uploads.{total, mostWords}
 use Rattle.store.specs.Slots.{told, isFits, slotsAfter}
 use Rattle.store.proofs.Laws.{Space, space, is-fits}
 use Rattle.store.proofs.Walk.{area-most}
@@ -17,7 +17,7 @@ use Rattle.store.proofs.upload.Tie as tie
 long : (c : tie.Start) → length (c .args .slots) ≡ 64
 long c = search needs
 
-fits : (c : tie.Start) → total (told (c .args .kind) (c .args .slots)) ≤ 16777216
+fits : (c : tie.Start) → total (told (c .args .kind) (c .args .slots)) ≤ mostWords
 fits c = omega (arith, ok-formed (c .args .kind) (length (c .args .store .now)) (c .args .slots) (long c) (c .pre .0) .fits)
 
 -- it has room
