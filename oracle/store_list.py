@@ -63,7 +63,7 @@ class Log:
     def begin(self, kind, size):
         self.kind = kind
         self.store = Store(size)
-        self.sent += [2, size]
+        self.sent += [2, size, 0, 0, 0]
 
     def send(self, number, width, height=0):
         words = [self.random.getrandbits(32) for _ in range(takes(self.kind, width, height))]

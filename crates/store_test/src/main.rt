@@ -1,13 +1,14 @@
 // Replays uploads from standard input against a local store and prints, after each, the answer and
-// checksums of the slots and of the store's words. The input is words, little-endian: 2 and a size
-// begin a store of that size anew, every word of it `FILL`; 0 (texture) or 1 (model), number,
-// width, height and a count are an upload, whose words follow. `oracle/store_list.py` writes both
+// checksums of the slots and of the store's words. The input is words, little-endian: 0 (texture)
+// or 1 (model), number, width, height and a count are an upload, whose words follow; 2, a size and
+// three zeros begin a store of that size anew, every word of it `FILL`. `oracle/store_list.py` writes both
 // the input and what has to be printed.
 use libc::STDOUT_FILENO;
 use store::Kind;
 use store::Room;
 use store::SLOTS;
 use store::Slot;
+ghost use mathlib.Core.Path.{_≡_};
 ghost use Prim.Native.Nat.{_<_, _≤_};
 ghost use lib.ListN.{length};
 
@@ -90,6 +91,12 @@ fn count_of(x: u32) -> usize {
     x as usize
 }
 
+fn at_most(a: usize, most: usize) -> usize
+    ensures { λ r. ⌜ r ≤ most ⌝ }
+{
+    if a < most { a } else { most }
+}
+
 fn kind_of(x: u32) -> Kind {
     if x == 0 { Kind::Texture } else { Kind::Model }
 }
@@ -118,7 +125,7 @@ struct Next {
     at: usize,
 }
 
-// An upload whose words stand in the input from `from` up to `to`.
+// An upload is handed on once all that `store::upload` asks has been tested.
 fn upload(
     kind: Kind,
     slots: [Slot; SLOTS],
@@ -149,6 +156,18 @@ fn upload(
     after
 }
 
+// A store of this size anew.
+fn begin(size: usize, at: usize, store: &mut [u32]) -> Next
+    ensures { λ r. ⌜ (r .at ≡ at) × (r .size ≤ length (now (store .exit))) ⌝ }
+{
+    fill(store);
+    Next {
+        slots: [NO_SLOT; SLOTS],
+        size: at_most(size, store.len()),
+        at,
+    }
+}
+
 fn record(slots: [Slot; SLOTS], size: usize, at: usize, words: &[u32], store: &mut [u32]) -> Next
     requires { ⌜ at < length (now words) ⌝ }
     requires { ⌜ size ≤ length (now store) ⌝ }
@@ -160,21 +179,6 @@ fn record(slots: [Slot; SLOTS], size: usize, at: usize, words: &[u32], store: &m
         size,
         at: words.len(),
     };
-    if words.len() - at < 2 {
-        return end;
-    }
-    if words[at] == 2 {
-        let n = count_of(words[at + 1]);
-        if store.len() < n {
-            return end;
-        }
-        fill(store);
-        return Next {
-            slots: [NO_SLOT; SLOTS],
-            size: n,
-            at: at + 2,
-        };
-    }
     if words.len() - at < 5 {
         return end;
     }
@@ -184,6 +188,9 @@ fn record(slots: [Slot; SLOTS], size: usize, at: usize, words: &[u32], store: &m
         return end;
     }
     let to = from + count;
+    if words[at] == 2 {
+        return begin(count_of(words[at + 1]), to, store);
+    }
     let after = upload(
         kind_of(words[at]),
         slots,

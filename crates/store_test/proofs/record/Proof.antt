@@ -12,11 +12,8 @@ sub-if1 c = search needs
 returns : tie.Need-returns
 returns c = search needs
 
-mul-if2 : tie.Need-mul-if2
-mul-if2 c = search needs
-
-shared-slice-read-if2 : tie.Need-shared-slice-read-if2
-shared-slice-read-if2 c = search needs
+add-from : tie.Need-add-from
+add-from c = search needs
 
 add-count-of : tie.Need-add-count-of
 add-count-of c = search needs
@@ -30,29 +27,20 @@ shared-slice-read-count-of c = search needs
 count-of-requires : tie.Need-count-of-requires
 count-of-requires c κs = search needs
 
+sub-if2 : tie.Need-sub-if2
+sub-if2 c = search needs
+
 returns-2 : tie.Need-returns-2
 returns-2 c = search needs
 
-fill-requires : tie.Need-fill-requires
-fill-requires c κs = search needs
+add-to : tie.Need-add-to
+add-to c = search needs
 
-add-t18 : tie.Need-add-t18
-add-t18 c = search needs
+mul-if3 : tie.Need-mul-if3
+mul-if3 c = search needs
 
-same-length : tie.Need-same-length
-same-length c = search needs
-
-returns-3 : tie.Need-returns-3
-returns-3 c = search needs
-
-sub-if4 : tie.Need-sub-if4
-sub-if4 c = search needs
-
-returns-4 : tie.Need-returns-4
-returns-4 c = search needs
-
-add-from : tie.Need-add-from
-add-from c = search needs
+shared-slice-read-if3 : tie.Need-shared-slice-read-if3
+shared-slice-read-if3 c = search needs
 
 add-count-of-2 : tie.Need-add-count-of-2
 add-count-of-2 c = search needs
@@ -66,14 +54,14 @@ shared-slice-read-count-of-2 c = search needs
 count-of-requires-2 : tie.Need-count-of-requires-2
 count-of-requires-2 c κs = search needs
 
-sub-if5 : tie.Need-sub-if5
-sub-if5 c = search needs
+begin-requires : tie.Need-begin-requires
+begin-requires c κs = search needs
 
-returns-5 : tie.Need-returns-5
-returns-5 c = search needs
+same-length : tie.Need-same-length
+same-length c = search needs
 
-add-to : tie.Need-add-to
-add-to c = search needs
+returns-3 : tie.Need-returns-3
+returns-3 c = search needs
 
 mul-kind-of : tie.Need-mul-kind-of
 mul-kind-of c = search needs
@@ -88,7 +76,7 @@ slice-relend-prefix-upload : tie.Need-slice-relend-prefix-upload
 slice-relend-prefix-upload c = search needs
 
 slice-aggregate-upload : tie.Need-slice-aggregate-upload
-slice-aggregate-upload c = sym (length-take-le (c .before .before .before .before .before .before .before .before .before .before .before .before .args .size) (c .before .before .before .before .before .before .before .before .before .before .before .before .args .store .now) (omega arith))
+slice-aggregate-upload c = sym (length-take-le (c .before .before .before .before .before .before .before .before .before .before .before .args .size) (c .before .before .before .before .before .before .before .before .before .before .before .args .store .now) (omega arith))
 
 add-upload : tie.Need-add-upload
 add-upload c = search needs
@@ -130,13 +118,13 @@ part-upload-end : tie.Need-part-upload-end
 part-upload-end c = search needs
 
 upload-requires : tie.Need-upload-requires
-upload-requires c κs = omega (arith, length-take-le (c .before .before .before .before .before .before .before .before .before .before .before .before .before .before .before .before .args .size) (c .before .before .before .before .before .before .before .before .before .before .before .before .before .before .before .before .args .store .now) (omega arith))
+upload-requires c κs = omega (arith, length-take-le (c .before .before .before .before .before .before .before .before .before .before .before .before .before .before .before .args .size) (c .before .before .before .before .before .before .before .before .before .before .before .before .before .before .before .args .store .now) (omega arith))
 
 same-length-2 : tie.Need-same-length-2
 same-length-2 c = search needs
 
-returns-6 : tie.Need-returns-6
-returns-6 c = search needs
+returns-4 : tie.Need-returns-4
+returns-4 c = search needs
 
 pub record-spec : {M : Type 1} → statement M
 record-spec =
@@ -144,27 +132,23 @@ record-spec =
     (tie.spec
     sub-if1
     returns
-    mul-if2
-    shared-slice-read-if2
+    add-from
     add-count-of
     mul-count-of
     shared-slice-read-count-of
     count-of-requires
+    sub-if2
     returns-2
-    fill-requires
-    add-t18
-    same-length
-    returns-3
-    sub-if4
-    returns-4
-    add-from
+    add-to
+    mul-if3
+    shared-slice-read-if3
     add-count-of-2
     mul-count-of-2
     shared-slice-read-count-of-2
     count-of-requires-2
-    sub-if5
-    returns-5
-    add-to
+    begin-requires
+    same-length
+    returns-3
     mul-kind-of
     shared-slice-read-kind-of
     kind-of-requires
@@ -185,4 +169,4 @@ record-spec =
     part-upload-end
     upload-requires
     same-length-2
-    returns-6)
+    returns-4)

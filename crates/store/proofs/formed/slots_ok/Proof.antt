@@ -7,7 +7,7 @@ use native.Mathlib.Omega.{arith}
 use borrow.Author.Needs.{needs}
 use borrow.Author.Tests.{not-true, not-false, lt-leb, le-leb, ne-eqb, eq-eqb}
 use lib.ListN.{length, drop, getD}
-use Rattle.store.specs.Slots.{slotsOk, unused, noSlot}
+use Rattle.store.specs.Slots.{areaOf, slotsOk, unused, noSlot}
 use Rattle.store.proofs.Walk.{slots-end, ok-unheld, ok-no, ok-next, area-most}
 use Rattle.store.proofs.formed.slots_ok.Statement.{statement}
 use Rattle.store.proofs.formed.slots_ok.Tie as tie
@@ -100,8 +100,15 @@ returns-5 c =
 area-requires : tie.Need-area-requires Inv-loop μ-loop
 area-requires c κs = search needs
 
-add-at : tie.Need-add-at Inv-loop μ-loop
-add-at c =
+-- past all tests of the slot at i: its area is small, and the slots after it are left to be tested
+passed : (c : tie.After-area Inv-loop μ-loop)
+    → let at-loop = c .before .before .before .before .before .before .before .before .before .before .before in
+    let args = at-loop .before .args in
+    let i = at-loop .loop .i in
+    let at = at-loop .loop .at in
+    let area = areaOf (args .kind) (getD (args .t2) i noSlot .width) (getD (args .t2) i noSlot .height) in
+    (area ≤ 524288) × (slotsOk (args .kind) (args .size) at (drop i (args .t2)) ≡ slotsOk (args .kind) (args .size) (at + area) (drop (i + 1) (args .t2)))
+passed c =
     let at-loop = c .before .before .before .before .before .before .before .before .before .before .before in
     let args = at-loop .before .args in
     let i = at-loop .loop .i in
@@ -110,10 +117,15 @@ add-at c =
     let held : getD (args .t2) i noSlot .held ≡ true = not-false _ (c .before .before .before .before .before .before .before .if1 .left) in
     let sides = sym (c .before .before .before .before .before .before .sides-ok .ensures) ∙ not-false _ (c .before .before .before .before .before .if3 .left) in
     let fresh = sym (c .before .before .fresh-from .ensures) ∙ not-false _ (c .before .if5 .left) in
-    let start = c .before .before .before .if4 .left in
-    let most = area-most (args .kind) (getD (args .t2) i noSlot .width) (getD (args .t2) i noSlot .height) sides in
-    let area = c .area .ensures in
-    omega arith
+    let start = c .before .before .before .if4 .left in (
+      area-most (args .kind) (getD (args .t2) i noSlot .width) (getD (args .t2) i noSlot .height) sides,
+      ok-next (args .t2) i here (args .kind) (args .size) at held sides start fresh,
+    )
+
+add-at : tie.Need-add-at Inv-loop μ-loop
+add-at c =
+    let next = passed c in
+    omega (arith, c .area .ensures)
 
 add-i : tie.Need-add-i Inv-loop μ-loop
 add-i c = omega arith
@@ -127,20 +139,12 @@ loop-again c =
     let args = at-loop .before .args in
     let i = at-loop .loop .i in
     let at = at-loop .loop .at in
-    let here : i < length (args .t2) = omega arith in
-    let held : getD (args .t2) i noSlot .held ≡ true = not-false _ (c .before .before .before .before .before .before .before .if1 .left) in
-    let sides = sym (c .before .before .before .before .before .before .sides-ok .ensures) ∙ not-false _ (c .before .before .before .before .before .if3 .left) in
-    let fresh = sym (c .before .before .fresh-from .ensures) ∙ not-false _ (c .before .if5 .left) in
-    let start = c .before .before .before .if4 .left in
-    let most = area-most (args .kind) (getD (args .t2) i noSlot .width) (getD (args .t2) i noSlot .height) sides in
+    let next = passed c in
     let area = c .area .ensures in (
       omega arith,
       (
         at-loop .loop .inv .1 .0,
-        (
-          omega arith,
-          at-loop .loop .inv .1 .1 .1 ∙ ok-next (args .t2) i here (args .kind) (args .size) at held sides start fresh ∙ ap (λ (n : ℕ). slotsOk (args .kind) (args .size) (at + n) (drop (i + 1) (args .t2))) (sym area),
-        ),
+        (omega arith, at-loop .loop .inv .1 .1 .1 ∙ next .1 ∙ ap (λ (n : ℕ). slotsOk (args .kind) (args .size) (at + n) (drop (i + 1) (args .t2))) (sym area)),
       ),
     )
 
