@@ -53,10 +53,12 @@ cardOf k n w h = record { number = n; wide = w; high = h; words = areaOf k w h }
 abbrev pub cardAt : Kind → Slot → Card
 cardAt k s = cardOf k (s .number) (s .width) (s .height)
 
+-- the cards of the held slots, in order
 abbrev pub told : Kind → List Slot → List Card
 told k [] = []
 told k (s ∷ ss) = cond (s .held) (cardAt k s ∷ told k ss) (told k ss)
 
+-- "stored as received": the upload of a held slot, its words read from the store
 abbrev pub uploadAt : Kind → Slot → List ℕ → Whole
 uploadAt k s store = wholeOf (s .number) (s .width) (s .height) (take (areaOf k (s .width) (s .height)) (drop (s .start) store))
 
@@ -79,6 +81,7 @@ abbrev pub stays : ℕ → Slot → Bool
 stays n s = s .held && not (eqb (s .number) n)
 
 -- ---- an accepted upload: the slots, and the words
+-- "the new one stands last"
 abbrev pub slotsAfter : Card → List Card → List Slot
 slotsAfter c cs = slotsOf (stored c cs)
 
@@ -107,6 +110,7 @@ abbrev pub fresh : ℕ → List Slot → Bool
 fresh n [] = true
 fresh n (s ∷ ss) = cond (s .held) (cond (eqb (s .number) n) false (fresh n ss)) true
 
+-- "unused slots all zero"
 abbrev pub zeroSlot : Slot → Bool
 zeroSlot s = not (s .held) && ((eqb (s .number) 0 && eqb (s .width) 0) && (eqb (s .height) 0 && eqb (s .start) 0))
 
@@ -114,6 +118,7 @@ abbrev pub unused : List Slot → Bool
 unused [] = true
 unused (s ∷ ss) = cond (zeroSlot s) (unused ss) false
 
+-- a held slot whose area has to begin at a word, before those after it
 abbrev pub heldOk : Kind → ℕ → Slot → List Slot → Bool
 heldOk k at s ss = (sidesOk k (s .width) (s .height) && eqb (s .start) at) && fresh (s .number) ss
 
