@@ -1,0 +1,68 @@
+-- Case 12 of document 01's table, and "1 and 80000001 are different textures", of the definitions. antt computes each. Assumes nothing.
+use Prim.Native.Nat.{ℕ}
+use mathlib.Core.Path.{_≡_, refl}
+use mathlib.Core.Option.{some}
+use mathlib.Core.List.{List, [], _∷_}
+use lib.ListN.{length, replicate}
+use Rattle.store.specs.Uploads.{Whole, card, room}
+use Rattle.store.specs.Slots.{wholeOf, noSlot, told, view, slotFor, looked, slotsAfter, wordsAfter}
+use Rattle.store.specs.declared.Slot.{Slot}
+use Rattle.store.specs.declared.Room.{Room}
+use Rattle.store.specs.declared.Room.the-variants.{Fits, NoWords}
+use Rattle.store.specs.declared.Kind.the-variants.{Texture}
+
+-- a texture store
+record Shelf : Type 0 where
+  slots : List Slot
+  words : List ℕ
+
+empty : ℕ → Shelf
+empty size = record { slots = replicate 64 noSlot; words = replicate size 0 }
+
+answer : Whole → Shelf → Room
+answer u s = room (length (s .words)) (told Texture (s .slots)) (u .number) (length (u .words))
+
+-- after an accepted upload
+put : Whole → Shelf → Shelf
+put u s = record { slots = slotsAfter (card u) (told Texture (s .slots)); words = wordsAfter (u .number) (u .words) (view Texture (s .slots) (s .words)) (s .words) }
+
+-- ---- "Store of 4 words, two 2 × 2 textures, the first sent again: status 64. Store of 6: accepted, now last."
+first : Whole
+first = wholeOf 1 2 2 (11 ∷ 12 ∷ [])
+
+second : Whole
+second = wholeOf 2 2 2 (21 ∷ 22 ∷ [])
+
+again : Whole
+again = wholeOf 1 2 2 (31 ∷ 32 ∷ [])
+
+both : ℕ → Shelf
+both size = put second (put first (empty size))
+
+case-12-taken : (answer first (empty 4) ≡ Fits) × (answer second (put first (empty 4)) ≡ Fits)
+unfolding answer put empty first second
+case-12-taken = (refl, refl)
+
+case-12-four : answer again (both 4) ≡ NoWords
+unfolding answer both put empty first second again
+case-12-four = refl
+
+case-12-six : answer again (both 6) ≡ Fits
+unfolding answer both put empty first second again
+case-12-six = refl
+
+case-12-last : (put again (both 6) .words ≡ 21 ∷ 22 ∷ 31 ∷ 32 ∷ 0 ∷ 0 ∷ []) × (view Texture (put again (both 6) .slots) (put again (both 6) .words) ≡ second ∷ again ∷ [])
+unfolding both put empty first second again
+case-12-last = (refl, refl)
+
+-- ---- "A slot chosen by some bits of the number: 1 and 80000001 are different textures"
+far : Whole
+far = wholeOf 0x80000001 2 2 (41 ∷ 42 ∷ [])
+
+pair : Shelf
+pair = put far (put first (empty 4))
+
+both-held : (answer far (put first (empty 4)) ≡ Fits) × (looked Texture (pair .words) (slotFor 1 (pair .slots)) ≡ some first)
+    × (looked Texture (pair .words) (slotFor 0x80000001 (pair .slots)) ≡ some far)
+unfolding answer pair put empty first far
+both-held = (refl, refl, refl)

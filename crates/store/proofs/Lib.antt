@@ -1,0 +1,8 @@
+pub mod Bools
+pub mod Over
+pub mod Laws
+pub mod Walk
+pub mod Held
+pub mod Moved
+pub mod Kept
+pub mod Cases

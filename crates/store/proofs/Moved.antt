@@ -1,0 +1,165 @@
+-- What `put` finds and leaves, in terms of the uploads that a store holds: the old upload under a number, the closing up of the words, and the new ones last. Assumes nothing.
+use Prim.Native.Nat.{ℕ, zero, suc, _+_, _-_, _≤_, max}
+use mathlib.Core.Path.{_≡_, refl, sym, ap, _∙_}
+use mathlib.Core.Bool.{Bool, true, false, cond, _&&_}
+use mathlib.Core.Option.{some}
+use mathlib.Core.List.{List, [], _∷_, _++_, append-assoc}
+use native.Mathlib.Omega.{arith}
+use native.Mathlib.Nat.{add-zero, zero-add}
+use lib.ListN.{length, take, drop, replicate}
+use lib.Seq.{take-at, drop-at, drop-drop, paste}
+use lib.Dec.{eqb}
+use borrow.Author.Tests.{eqb-true}
+use Rattle.store.specs.Uploads.{Whole, Card, card, cards, without, find, isSome, holds, wordsOf, total}
+use Rattle.store.specs.Slots.{areaOf, sidesOk, noSlot, slotOf, place, told, uploadAt, view, slotFor, looked, over, wordsAfter, slotsOk}
+use Rattle.store.specs.declared.Slot.{Slot}
+use Rattle.store.specs.declared.Kind.{Kind}
+use Rattle.store.specs.declared.Found.{Found}
+use Rattle.store.specs.declared.Found.the-variants.{At, Nothing}
+use Rattle.store.proofs.Laws.{Apart, without-none, all-mid, cards-append, cards-without, total-append, wordsOf-append, length-wordsOf}
+use Rattle.store.proofs.Walk.{none-holds}
+use Rattle.store.proofs.Held.{Sized, Rep, ok-rep, view-told}
+
+-- looking a number up in slots and words is looking it up in the uploads that they tell
+pub look-is : (k : Kind) (n : ℕ) (ss : List Slot) (store : List ℕ) → looked k store (slotFor n ss) ≡ find n (view k ss store)
+look-is k n [] store = refl
+look-is k n (s ∷ ss) store = go (s .held) (eqb (s .number) n) refl (look-is k n ss store)
+  where
+    go : (a b : Bool) → eqb (s .number) n ≡ b → looked k store (slotFor n ss) ≡ find n (view k ss store)
+        → looked k store (cond (a && b) (At s) (slotFor n ss)) ≡ find n (cond a (uploadAt k s store ∷ view k ss store) (view k ss store))
+    go true true e ih = rw e
+    go true false e ih = rw e ih
+    go false b e ih = ih
+
+holds-cards : (n : ℕ) (us : List Whole) → holds n (cards us) ≡ holds n us
+holds-cards n [] = refl
+holds-cards n (u ∷ us) = go (eqb (u .number) n) (holds-cards n us)
+  where
+    go : (b : Bool) → holds n (cards us) ≡ holds n us → isSome (cond b (some (card u)) (find n (cards us))) ≡ isSome (cond b (some u) (find n us))
+    go true ih = refl
+    go false ih = ih
+
+-- ---- the old upload under n: those before it and those after it, which are what is left without it; and the slot that is found
+record Old (n at : ℕ) (us : List Whole) (s : Slot) : Type 0 where
+  xs : List Whole
+  v : Whole
+  ys : List Whole
+  is : us ≡ xs ++ (v ∷ ys)
+  gone : without n us ≡ xs ++ ys
+  slot : s ≡ slotOf (at + total (cards xs)) (card v)
+
+none-free : (n m : ℕ) → slotFor n (replicate m noSlot) ≡ Nothing
+none-free n zero = refl
+none-free n (suc m) = none-free n m
+
+old-of : (n at m : ℕ) (us : List Whole) (s : Slot) → Apart (cards us) → slotFor n (place at (cards us) ++ replicate m noSlot) ≡ At s → Old n at us s
+old-of n at m [] s d e = absurd (let z : _≡_ {A = ℕ} 0 1 = cc (none-free n m) in omega arith)
+old-of n at m (u ∷ us) s d e = go (eqb (u .number) n) refl e (old-of n (at + length (u .words)) m us s (d .1))
+  where
+    go : (b : Bool) → eqb (u .number) n ≡ b → cond b (At (slotOf at (card u))) (slotFor n (place (at + length (u .words)) (cards us) ++ replicate m noSlot)) ≡ At s
+        → (slotFor n (place (at + length (u .words)) (cards us) ++ replicate m noSlot) ≡ At s → Old n (at + length (u .words)) us s) → Old n at (u ∷ us) s
+    go true b e ih = record {
+      xs = [];
+      v = u;
+      ys = us;
+      is = refl;
+      gone = rw b (without-none n us (sym (holds-cards n us) ∙ rw (eqb-true (u .number) n b) at (d .0)));
+      slot = rw add-zero (cc);
+    }
+    go false b e ih =
+        let o = ih e in
+        let sum : at + length (u .words) + total (cards (o .xs)) ≡ at + (length (u .words) + total (cards (o .xs))) = omega arith in
+        record { xs = u ∷ o .xs; v = o .v; ys = o .ys; is = ap (λ (l : List Whole). u ∷ l) (o .is); gone = rw (b, o .gone); slot = rw sum at (o .slot) }
+
+-- ---- the closing up: from A B C R to A C, and the rest where it stood
+close : (A B C R store : List ℕ) (a b c : ℕ) → store ≡ A ++ (B ++ (C ++ R)) → length A ≡ a → length B ≡ b → length C ≡ c
+    → paste store a (drop (a + b) store) c ≡ (A ++ C) ++ drop (a + c) store
+close A B C R store a b c e p q r =
+    let front : take a store ≡ A = rw e (take-at A (B ++ (C ++ R)) a p) in
+    let mid : drop (a + b) store ≡ C ++ R =
+    sym (drop-drop b a store) ∙ ap (drop b) (rw e (drop-at A (B ++ (C ++ R)) a p)) ∙ drop-at B (C ++ R) b q in
+    rw (front, mid, take-at C R c r)
+
+-- ---- the new words last, over a store whose first words are those of the other numbers
+last : (n : ℕ) (ws : List ℕ) (us : List Whole) (store st : List ℕ) (at end : ℕ) → end ≡ total (cards us) → at ≡ total (cards (without n us)) → at ≤ end
+    → st ≡ wordsOf (without n us) ++ drop at store → over end (take at st ++ ws) st ≡ wordsAfter n ws us store
+last n ws us store st at end p q h e =
+    let others : List ℕ = wordsOf (without n us) in
+    let m : ℕ = max end (length (others ++ ws)) in
+    let long : length others ≡ at = length-wordsOf (without n us) ∙ sym q in
+    let front : take at st ≡ others = rw e (take-at others (drop at store) at long) in
+    let past : m ≡ at + (m - at) = omega arith in
+    let more : drop at st ≡ drop at store = rw e (drop-at others (drop at store) at long) in
+    let back : drop m st ≡ drop m store =
+    ap (λ (i : ℕ). drop i st) past ∙ sym (drop-drop (m - at) at st) ∙ ap (drop (m - at)) more ∙ drop-drop (m - at) at store ∙ ap (λ (i : ℕ). drop i store) (sym past) in
+    rw (front, back, p)
+
+-- ---- what `put` needs to know, and what it leaves
+module _ (k : Kind) (slots : List Slot) (store : List ℕ) (n : ℕ) (long : length slots ≡ 64) (ok : slotsOk k (length store) 0 slots ≡ true) where
+  rep : Rep k slots store (view k slots store)
+  rep = ok-rep k slots store long ok
+
+  total-is : total (told k slots) ≡ total (cards (view k slots store))
+  total-is = ap total (sym (view-told k slots store long ok))
+
+  pub total-fits : total (told k slots) ≤ length store
+  total-fits = omega (arith, total-is, rep .formed .fits)
+
+  -- nothing is under the number
+  pub put-new : (ws : List ℕ) (end : ℕ) → slotFor n slots ≡ Nothing → end ≡ total (told k slots)
+      → (end ≡ total (without n (told k slots))) × (over end (take end store ++ ws) store ≡ wordsAfter n ws (view k slots store) store)
+  put-new ws end e p =
+      let us : List Whole = view k slots store in
+      let free : holds n us ≡ false = ap isSome (sym (look-is k n slots store)) ∙ ap (λ (f : Found). isSome (looked k store f)) e in
+      let same : without n us ≡ us = without-none n us free in
+      let all : end ≡ total (cards us) = p ∙ total-is in (
+        rw (without-none n (told k slots) (none-holds k n slots e)) p,
+        last n ws us store store end end all (rw same all) (omega arith) (rw (same, all) (rep .words-are)),
+      )
+
+  -- something is: where it stands, what is left without it, and the words once later ones have closed up
+  pub record Spot (s : Slot) : Type 0 where
+    pub sides : sidesOk k (s .width) (s .height) ≡ true
+    pub inside : s .start + areaOf k (s .width) (s .height) ≤ total (told k slots)
+    pub left : total (told k slots) - areaOf k (s .width) (s .height) ≡ total (without n (told k slots))
+    pub closed : paste store (s .start) (drop (s .start + areaOf k (s .width) (s .height)) store) (total (told k slots) - (s .start + areaOf k (s .width) (s .height)))
+        ≡ wordsOf (without n (view k slots store)) ++ drop (total (without n (told k slots))) store
+
+  pub spot : (s : Slot) → slotFor n slots ≡ At s → Spot s
+  spot s e =
+      let us : List Whole = view k slots store in
+      let cs : List Card = cards us in
+      let o : Old n 0 us s = old-of n 0 (64 - length cs) us s (rep .formed .apart) (ap (slotFor n) (sym (rep .formed .slots-are)) ∙ e) in
+      let A : List ℕ = wordsOf (o .xs) in
+      let B : List ℕ = o .v .words in
+      let C : List ℕ = wordsOf (o .ys) in
+      let R : List ℕ = drop (total cs) store in
+      let a : ℕ = total (cards (o .xs)) in
+      let b : ℕ = length B in
+      let c : ℕ = total (cards (o .ys)) in
+      let split : cs ≡ cards (o .xs) ++ (card (o .v) ∷ cards (o .ys)) = ap cards (o .is) ∙ cards-append (o .xs) (o .v ∷ o .ys) in
+      let old : Sized k (card (o .v)) = all-mid (Sized k) (cards (o .xs)) (card (o .v)) (cards (o .ys)) (rw split at (rep .formed .sized)) in
+      let start : s .start ≡ a = ap (λ (x : Slot). x .start) (o .slot) ∙ zero-add a in
+      let area : areaOf k (s .width) (s .height) ≡ b = ap (λ (x : Slot). areaOf k (x .width) (x .height)) (o .slot) ∙ sym (old .size) in
+      let sum : total (told k slots) ≡ a + (b + c) = total-is ∙ ap total split ∙ total-append (cards (o .xs)) (card (o .v) ∷ cards (o .ys)) in
+      let rest : total (without n (told k slots)) ≡ a + c =
+      ap (λ (l : List Card). total (without n l)) (sym (view-told k slots store long ok)) ∙ ap total (sym (cards-without n us) ∙ ap cards (o .gone) ∙ cards-append (o .xs) (o .ys))
+      ∙ total-append (cards (o .xs)) (cards (o .ys)) in
+      let is : store ≡ A ++ (B ++ (C ++ R)) =
+      rep .words-are ∙ ap (λ (l : List ℕ). l ++ R) (ap wordsOf (o .is) ∙ wordsOf-append (o .xs) (o .v ∷ o .ys)) ∙ append-assoc A (B ++ C) R ∙ ap (λ (l : List ℕ). A ++ l) (append-assoc B C R) in
+      let more : total (told k slots) - (a + b) ≡ c = omega arith in
+      record {
+        sides = rw (o .slot) (old .sides);
+        inside = omega arith;
+        left = omega arith;
+        closed = rw (start, area, more, o .gone, wordsOf-append (o .xs) (o .ys), rest) (close A B C R store a b c is (length-wordsOf (o .xs)) refl (length-wordsOf (o .ys)));
+      }
+
+  pub put-old : (ws st : List ℕ) (s : Slot) (size end : ℕ) → slotFor n slots ≡ At s → size ≡ areaOf k (s .width) (s .height) → end ≡ total (told k slots)
+      → st ≡ paste store (s .start) (drop (s .start + size) store) (end - (s .start + size)) → over end (take (end - size) st ++ ws) st ≡ wordsAfter n ws (view k slots store) store
+  put-old ws st s size end e p q h =
+      let us : List Whole = view k slots store in
+      let o : Spot s = spot s e in
+      let left : end - size ≡ total (without n (told k slots)) = rw (p, q) (o .left) in
+      let same : total (cards (without n us)) ≡ total (without n (told k slots)) = ap total (cards-without n us) ∙ ap (λ (l : List Card). total (without n l)) (view-told k slots store long ok) in
+      last n ws us store st (end - size) end (q ∙ total-is) (left ∙ sym same) (omega arith) (h ∙ rw (p, q, o .left) (o .closed))

@@ -1,0 +1,131 @@
+-- `store::words::put` meets its contract: where nothing is under the number by `put-new`, else by `spot` and `put-old`. Assumes nothing.
+use Prim.Native.Nat.{_≤_}
+use mathlib.Core.Path.{_≡_, sym, _∙_}
+use mathlib.Core.List.{_++_}
+use native.Mathlib.Omega.{arith}
+use borrow.Author.Needs.{needs}
+use lib.ListN.{length, take}
+use Rattle.store.specs.Uploads.{without, total}
+use Rattle.store.specs.Slots.{told, view, slotFor, over, wordsAfter}
+use Rattle.store.specs.declared.Slot.{Slot}
+use Rattle.store.specs.declared.Found.the-variants.{At}
+use Rattle.store.proofs.Moved.{total-fits, put-new, put-old, Spot, spot}
+use Rattle.store.proofs.words.put.Statement.{statement}
+use Rattle.store.proofs.words.put.Tie as tie
+
+long : (c : tie.Start) → length (c .args .slots) ≡ 64
+long c = search needs
+
+fits : (c : tie.Start) → total (told (c .args .kind) (c .args .slots)) ≤ length (c .args .store .now)
+fits c = total-fits (c .args .kind) (c .args .slots) (c .args .store .now) (c .args .number) (long c) (c .pre .0)
+
+-- nothing is under the number
+new-at : (c : tie.After-enum-told)
+    → let args = c .before .before .before .before .before .before .args in
+    let end = c .before .before .before .in-use .result .total in
+    (end ≡ total (without (args .number) (told (args .kind) (args .slots))))
+    × (over end (take end (args .store .now) ++ args .words .now) (args .store .now) ≡ wordsAfter (args .number) (args .words .now) (view (args .kind) (args .slots) (args .store .now)) (args .store .now))
+new-at c =
+    let start = c .before .before .before .before .before .before in
+    let args = start .args in
+    let used = c .before .before .before .in-use in
+    put-new (args .kind) (args .slots) (args .store .now) (args .number) (long start) (start .pre .0) (args .words .now) (used .result .total)
+    (sym (c .before .before .find .ensures) ∙ c .enum-told .given .1) (used .ensures .1)
+
+-- a slot is found
+abbrev slot : tie.After-known-told → Slot
+slot c = c .before .f .given .0 .0
+
+found : (c : tie.After-known-told) → let args = c .before .before .before .before .before .before .before .args in
+    slotFor (args .number) (args .slots) ≡ At (slot c)
+found c = sym (c .before .before .before .find .ensures) ∙ c .before .f .given .1
+
+spot-at : (c : tie.After-known-told)
+    → let start = c .before .before .before .before .before .before .before in
+    let args = start .args in
+    Spot (args .kind) (args .slots) (args .store .now) (args .number) (long start) (start .pre .0) (slot c)
+spot-at c =
+    let start = c .before .before .before .before .before .before .before in
+    let args = start .args in
+    spot (args .kind) (args .slots) (args .store .now) (args .number) (long start) (start .pre .0) (slot c) (found c)
+
+in-use-requires : tie.Need-in-use-requires
+in-use-requires c κs = omega (arith, fits (c .before .before))
+
+find-requires : tie.Need-find-requires
+find-requires c κs = search needs
+
+enum-known-f : tie.Need-enum-known-f
+enum-known-f c = search needs
+
+enum-told : tie.Need-enum-told
+enum-told c = search needs
+
+put-last-requires : tie.Need-put-last-requires
+put-last-requires c κs =
+    let new = new-at (c .before) .0 in
+    omega (arith, fits (c .before .before .before .before .before .before .before))
+
+same-length : tie.Need-same-length
+same-length c = search needs
+
+returns : tie.Need-returns
+returns c = c .before .before .put-last .ensures ∙ new-at (c .before .before .before .before) .1
+
+area-requires : tie.Need-area-requires
+area-requires c κs = search needs
+
+cast-to : tie.Need-cast-to
+cast-to c = search needs
+
+add-move-down : tie.Need-add-move-down
+add-move-down c =
+    let s = spot-at (c .before .before .before) in
+    omega (arith, c .before .before .area .ensures, fits (c .before .before .before .before .before .before .before .before .before .before))
+
+move-down-requires : tie.Need-move-down-requires
+move-down-requires c κs =
+    let s = spot-at (c .before .before .before) in
+    omega (arith, c .before .before .area .ensures, fits (c .before .before .before .before .before .before .before .before .before .before), c .before .before .before .before .before .before .before .in-use .ensures .1)
+
+sub-put-last : tie.Need-sub-put-last
+sub-put-last c =
+    let s = spot-at (c .before .before .before .before .before .before .before) in
+    omega (arith, c .before .before .before .before .before .before .area .ensures, c .before .before .before .before .before .before .before .before .before .before .before .in-use .ensures .1)
+
+put-last-requires-2 : tie.Need-put-last-requires-2
+put-last-requires-2 c κs =
+    let s = spot-at (c .before .before .before .before .before .before .before) in
+    omega (arith, c .before .before .before .before .before .before .area .ensures, c .before .before .before .before .before .before .before .before .before .before .before .in-use .ensures .1, fits (c .before .before .before .before .before .before .before .before .before .before .before .before .before .before))
+
+same-length-2 : tie.Need-same-length-2
+same-length-2 c = search needs
+
+returns-2 : tie.Need-returns-2
+returns-2 c =
+    let start = c .before .before .before .before .before .before .before .before .before .before .before .before .before .before .before .before .before in
+    let args = start .args in
+    let used = c .before .before .before .before .before .before .before .before .before .before .before .before .before .before .in-use in
+    let size = c .before .before .before .before .before .before .before .before .before .area in
+    c .before .before .put-last2 .ensures
+    ∙ put-old (args .kind) (args .slots) (args .store .now) (args .number) (long start) (start .pre .0) (args .words .now) _ (slot (c .before .before .before .before .before .before .before .before .before .before)) (size .result) (used .result .total) (found (c .before .before .before .before .before .before .before .before .before .before)) (size .ensures) (used .ensures .1) (c .before .before .before .before .before .before .move-down .ensures)
+
+pub put-spec : {M : Type 1} → statement M
+put-spec =
+    tie.close
+    (tie.spec
+    in-use-requires
+    find-requires
+    enum-known-f
+    enum-told
+    put-last-requires
+    same-length
+    returns
+    area-requires
+    cast-to
+    add-move-down
+    move-down-requires
+    sub-put-last
+    put-last-requires-2
+    same-length-2
+    returns-2)

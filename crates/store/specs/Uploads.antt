@@ -1,0 +1,84 @@
+-- Document 01, "The stores", over plain lists: what is held, in the order of the areas, and what a whole history of accepted uploads leaves.
+-- No slot and no place: one text for both kinds. Assumes nothing.
+use Prim.Native.Nat.{ℕ, _+_}
+use mathlib.Core.Bool.{Bool, true, false, cond, not, _&&_}
+use mathlib.Core.Option.{Option, none, some}
+use mathlib.Core.List.{List, [], _∷_, _++_, map}
+use lib.ListN.{length}
+use lib.Dec.{eqb, leb, ltb}
+use Rattle.store.specs.declared.Room.{Room}
+use Rattle.store.specs.declared.Room.the-variants.{Fits, NoSlot, NoWords}
+
+-- an upload of either kind: its number, its sides (a model's count, and 0), and its words
+pub record Upload (W : Type 0) : Type 0 where
+  pub number : ℕ
+  pub wide : ℕ
+  pub high : ℕ
+  pub words : W
+
+-- with its words as received
+abbrev pub Whole : Type 0
+Whole = Upload (List ℕ)
+
+-- with just how many they are: all that room and slots depend on
+abbrev pub Card : Type 0
+Card = Upload ℕ
+
+abbrev pub card : Whole → Card
+card u = record { number = u .number; wide = u .wide; high = u .high; words = length (u .words) }
+
+abbrev pub cards : List Whole → List Card
+cards us = map card us
+
+abbrev pub isSome : {A : Type 0} → Option A → Bool
+isSome none = false
+isSome (some a) = true
+
+module _ {W : Type 0} where
+  -- those of every number but n
+  abbrev pub without : ℕ → List (Upload W) → List (Upload W)
+  without n [] = []
+  without n (u ∷ us) = cond (eqb (u .number) n) (without n us) (u ∷ without n us)
+
+  -- the first under the number n: of a history, its last accepted upload
+  abbrev pub find : ℕ → List (Upload W) → Option (Upload W)
+  find n [] = none
+  find n (u ∷ us) = cond (eqb (u .number) n) (some u) (find n us)
+
+  abbrev pub holds : ℕ → List (Upload W) → Bool
+  holds n us = isSome (find n us)
+
+  -- "the old upload goes, later ones close up, and the new one stands last"
+  abbrev pub stored : Upload W → List (Upload W) → List (Upload W)
+  stored u us = without (u .number) us ++ (u ∷ [])
+
+  -- what a history of accepted uploads leaves, its newest first: of each number the last upload
+  abbrev pub live : List (Upload W) → List (Upload W)
+  live [] = []
+  live (u ∷ h) = stored u (live h)
+
+-- their words, one after the other, and how many those are
+abbrev pub wordsOf : List Whole → List ℕ
+wordsOf [] = []
+wordsOf (u ∷ us) = u .words ++ wordsOf us
+
+abbrev pub total : List Card → ℕ
+total [] = 0
+total (c ∷ cs) = c .words + total cs
+
+-- "a texture store and a model store, each 0 to 16,777,216 words"
+abbrev pub mostWords : ℕ
+mostWords = 16777216
+
+-- "64 slots each"
+abbrev pub slotCount : ℕ
+slotCount = 64
+
+-- "Words in use is the sum over held numbers", "an old upload of the same number included": what counts against an upload under n
+abbrev pub counted : ℕ → List Card → ℕ
+counted n cs = total cs
+
+-- "bit 6 is set exactly when the number is new and 64 are held, or words in use plus the new words exceed the store"
+abbrev pub room : ℕ → List Card → ℕ → ℕ → Room
+room size cs n new =
+    cond (not (holds n cs) && leb slotCount (length cs)) NoSlot (cond (ltb size (counted n cs + new)) NoWords Fits)
