@@ -1,7 +1,7 @@
 #!/usr/bin/env python3
 """The stores of document 01, by a plain list of what is held. Writes crates/store_test/stdin and stdout.
 
-A list entry is (number, width, height, words). There are no slots here: where a check sum of slots is printed,
+A list entry is (number, width, height, words). There are no slots here: where a digest of slots is printed,
 they are made up from the list, in its order, their areas back to back.
 """
 import os
@@ -46,10 +46,11 @@ class Store:
         return out + [0] * (5 * (64 - len(self.held)))
 
 
-def checksum(words):
-    h = 1
-    for word in words:
-        h = (h * 1000003 + word) % 4294967291
+def digest(words):
+    """FNV-1a of 64 bits, over each word's four bytes, the lowest first."""
+    h = 14695981039346656037
+    for byte in struct.pack('<%dI' % len(words), *words):
+        h = (h ^ byte) * 1099511628211 % 2**64
     return h
 
 
@@ -70,7 +71,7 @@ class Log:
         self.sent += [self.kind, number, width, height, len(words)] + words
         answer = self.store.upload(number, width, height, words)
         self.seen.add(answer)
-        self.lines.append('%d %d %d' % (answer, checksum(self.store.slots()), checksum(self.store.memory)))
+        self.lines.append('%d %016x %016x' % (answer, digest(self.store.slots()), digest(self.store.memory)))
         return answer
 
 

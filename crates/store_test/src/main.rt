@@ -1,5 +1,5 @@
 // Replays uploads from standard input against a local store and prints, after each, the answer and
-// checksums of the slots and of the store's words. The input is words, little-endian: 0 (texture)
+// digests of the slots and of the store's words. The input is words, little-endian: 0 (texture)
 // or 1 (model), number, width, height and a count are an upload, whose words follow; 2, a size and
 // three zeros begin a store of that size anew, every word of it `FILL`. `oracle/store_list.py` writes both
 // the input and what has to be printed.
@@ -51,33 +51,17 @@ fn fill(store: &mut [u32]) {
     }
 }
 
-// A checksum after one more word.
-fn mix(h: u64, x: u32) -> u64
-    requires { ⌜ h < 4294967291 ⌝ }
-    ensures { λ r. ⌜ r < 4294967291 ⌝ }
-{
-    (h * 1000003 + x as u64) % 4294967291
+fn mix_slot(h: u64, s: Slot) -> u64 {
+    let a = digest::word(digest::word(h, held(s)), s.number);
+    digest::word(digest::word(digest::word(a, s.width), s.height), s.start)
 }
 
-fn sum_words(words: &[u32]) -> u64 {
-    let mut h: u64 = 1;
-    let mut i = 0;
-    while i < words.len() {
-        h = mix(h, words[i]);
-        i += 1;
-    }
-    h
-}
-
-fn sum_slots(slots: [Slot; SLOTS]) -> u64 {
-    let mut h: u64 = 1;
+fn digest_slots(slots: [Slot; SLOTS]) -> u64 {
+    let mut h = digest::START;
     let mut i = 0;
     while i < SLOTS {
         let s = slots[i];
-        h = mix(
-            mix(mix(mix(mix(h, held(s)), s.number), s.width), s.height),
-            s.start,
-        );
+        h = mix_slot(h, s);
         i += 1;
     }
     h
@@ -112,9 +96,9 @@ fn answer(room: Room) -> u64 {
 fn report(room: Room, slots: [Slot; SLOTS], words: &[u32]) {
     io::print_decimal(STDOUT_FILENO, answer(room));
     io::write_all(STDOUT_FILENO, b" ");
-    io::print_decimal(STDOUT_FILENO, sum_slots(slots));
+    io::print_hex(STDOUT_FILENO, digest_slots(slots), 16);
     io::write_all(STDOUT_FILENO, b" ");
-    io::print_decimal(STDOUT_FILENO, sum_words(words));
+    io::print_hex(STDOUT_FILENO, digest::words(digest::START, words), 16);
     io::write_all(STDOUT_FILENO, b"\n");
 }
 
