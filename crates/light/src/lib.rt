@@ -1,0 +1,112 @@
+// Lights, and what they make of a corner's colour.
+use vector::three::dot;
+use vector::three::normalize;
+ghost use mathlib.Core.Path.{_≡_};
+ghost use Prim.Native.Nat.{_<_};
+ghost use Rattle.light.specs.Light.{disabled, toLightOf, shineOf, termOf, addedOf, shadeOf};
+
+pub struct Light {
+    pub enabled: bool,
+    pub ambient: [f32; 3],
+    pub diffuse: [f32; 3],
+    pub specular: [f32; 3],
+    pub emission: [f32; 3],
+    pub position: [f32; 3],
+}
+
+impl Light {
+    pub const DISABLED: Light = Light {
+        enabled: false,
+        ambient: [0.0; 3],
+        diffuse: [0.0; 3],
+        specular: [0.0; 3],
+        emission: [0.0; 3],
+        position: [0.0; 3],
+    };
+
+    pub fn disabled() -> Light
+        ensures { λ r. ⌜ r ≡ disabled ⌝ }
+    {
+        Light::DISABLED
+    }
+}
+
+fn to_light(light: [f32; 3], position: [f32; 3]) -> [f32; 3]
+    ensures { λ r. ⌜ r ≡ toLightOf light position ⌝ }
+{
+    normalize([
+        light[0] - position[0],
+        light[1] - position[1],
+        light[2] - position[2],
+    ])
+}
+
+// The specular factor, for a surface that faces the light by ndotl.
+fn shine(normal: [f32; 3], to_light: [f32; 3], view: [f32; 3], ndotl: f32) -> f32
+    ensures { λ r. ⌜ r ≡ shineOf normal «to_light» view ndotl ⌝ }
+{
+    let half_vector = normalize([
+        to_light[0] + view[0],
+        to_light[1] + view[1],
+        to_light[2] + view[2],
+    ]);
+    let ndoth = ieee::range::max0(dot(normal, half_vector));
+    if ndotl > 0.0 {
+        return vector::three::powi16(ndoth);
+    }
+    0.0
+}
+
+// What one light adds to one channel: its four terms, summed before they are added.
+fn term(albedo: [f32; 4], light: Light, channel: usize, ndotl: f32, shine: f32) -> f32
+    requires { ⌜ channel < 3 ⌝ }
+    ensures { λ r. ⌜ r ≡ termOf albedo light channel ndotl shine ⌝ }
+{
+    let a = albedo[channel];
+    a * light.ambient[channel]
+        + a * light.diffuse[channel] * ndotl
+        + light.specular[channel] * shine
+        + light.emission[channel]
+}
+
+fn add_light(
+    rgb: [f32; 3],
+    albedo: [f32; 4],
+    position: [f32; 3],
+    normal: [f32; 3],
+    view: [f32; 3],
+    light: Light,
+) -> [f32; 3]
+    ensures { λ r. ⌜ r ≡ addedOf albedo position normal view light rgb ⌝ }
+{
+    let light_position = light.position;
+    let toward = to_light(light_position, position);
+    let ndotl = ieee::range::max0(dot(normal, toward));
+    let specular = shine(normal, toward, view, ndotl);
+    [
+        rgb[0] + term(albedo, light, 0, ndotl, specular),
+        rgb[1] + term(albedo, light, 1, ndotl, specular),
+        rgb[2] + term(albedo, light, 2, ndotl, specular),
+    ]
+}
+
+pub fn shade_vertex(
+    albedo: [f32; 4],
+    position: [f32; 3],
+    normal: [f32; 3],
+    lights: [Light; 8],
+) -> [f32; 4]
+    ensures { λ r. ⌜ r ≡ shadeOf albedo position normal lights ⌝ }
+{
+    let view = normalize([-position[0], -position[1], -position[2]]);
+    let mut rgb = [0.0, 0.0, 0.0];
+    let mut i: usize = 0;
+    while i < 8 {
+        let light = lights[i];
+        if light.enabled {
+            rgb = add_light(rgb, albedo, position, normal, view, light);
+        }
+        i += 1;
+    }
+    [rgb[0], rgb[1], rgb[2], albedo[3]]
+}

@@ -1,0 +1,3 @@
+pub mod Three
+pub mod Matrices
+pub mod Normals
