@@ -11,12 +11,14 @@ pub fn fnv(bytes: impl Iterator<Item = u8>) -> u64 {
     bytes.fold(FNV_OFFSET, |digest, byte| (digest ^ byte as u64).wrapping_mul(FNV_PRIME))
 }
 
-/// The bits of a float, those of `ONE_NAN` for every NaN.
+/// The bits of a float, those of `ONE_NAN` for every NaN. The test is on the bits: after `is_nan` the compiler may take
+/// the choice between two NaNs for no choice.
 pub fn bits(float: f32) -> u32 {
-    if float.is_nan() {
+    let bits = float.to_bits();
+    if bits & 0x7fff_ffff > 0x7f80_0000 {
         ONE_NAN
     } else {
-        float.to_bits()
+        bits
     }
 }
 
