@@ -1,15 +1,19 @@
 //! Runs the proved functions of a corner beside the original, in one process, and compares bit for bit, every NaN as one
-//! value. `agree [--count N] [--seed S]`; linked with the archive of the crate `vertex_c`.
+//! value. `agree [--count N] [--seed S] [--only FUNCTION]`; linked with the archive of the crate `vertex_c`.
 
+#[allow(dead_code)]
+mod arguments;
+
+use arguments::Arguments;
 use vpu_oracle::calls::call_named;
-use vpu_oracle::digests::bits;
+use vpu_oracle::digests::{bits, ONE_NAN};
 use vpu_oracle::vertices::{record, FUNCTIONS};
 use vpu_oracle::words::word_line;
 
 /// What the port writes at most: 28 vertices of 16.
 const ROOM: usize = 448;
 
-/// The exports of `crates/vertex_c/src/lib.rt`: a slice is a pointer and a length, an array a pointer.
+// The exports of `crates/vertex_c/src/lib.rt`: a slice is a pointer and a length, an array a pointer.
 extern "C" {
     fn vertex_transform(x: *const f32, length: usize, out: *mut f32);
     fn vertex_multiply(x: *const f32, length: usize, out: *mut f32);
@@ -70,7 +74,7 @@ struct Seen {
 
 impl Seen {
     fn take(&mut self, record: &[u32], original: &[u32], port: &[u32]) {
-        self.nans += original.contains(&vpu_oracle::digests::ONE_NAN) as u64;
+        self.nans += original.contains(&ONE_NAN) as u64;
         match original {
             [] => self.none += 1,
             [size, ..] => *self.sizes.get_mut(*size as usize).unwrap_or(&mut 0) += 1,
@@ -100,22 +104,17 @@ fn compare(function: &str, seed: u64, count: u64) -> Result<Seen, String> {
     Ok(seen)
 }
 
-fn number(arguments: &[String], name: &str, default: u64) -> Result<u64, String> {
-    match arguments.iter().position(|argument| argument == name) {
-        None => Ok(default),
-        Some(at) => {
-            let text = arguments.get(at + 1).ok_or(format!("{name} wants a value"))?;
-            text.parse().map_err(|error| format!("{name} {text}: {error}"))
-        }
-    }
-}
-
 fn run() -> Result<bool, String> {
-    let arguments: Vec<String> = std::env::args().skip(1).collect();
-    let count = number(&arguments, "--count", 100_000)?;
-    let seed = number(&arguments, "--seed", 1)?;
+    let texts: Vec<String> = std::env::args().skip(1).collect();
+    let arguments = Arguments::parse(&texts)?;
+    arguments.expect(0, &["count", "seed", "only"])?;
+    let count = arguments.number("count", 100_000)?;
+    let seed = arguments.number("seed", 1)?;
     let mut agreed = true;
     for (function, _) in FUNCTIONS {
+        if arguments.option("only").is_some_and(|only| only != function) {
+            continue;
+        }
         let seen = compare(function, seed, count)?;
         let (differences, nans, none) = (seen.differences, seen.nans, seen.none);
         println!("{function:10} {count:8} inputs, {differences} differences ({nans} with NaN, {none} none)");

@@ -14,7 +14,7 @@ const SECTION_WORDS: usize = 12_288;
 
 /// Polygons of this many vertices and more are looked for, among so many inputs.
 const WIDE: u32 = 9;
-const SEARCHED: u64 = 120_000;
+const SEARCHED: u64 = 600_000;
 const WIDE_KEPT: usize = 64;
 
 pub fn lines(arguments: &Arguments) -> Result<(), String> {

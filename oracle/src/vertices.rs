@@ -351,28 +351,56 @@ fn polygon(random: &mut Random, family: u32) -> Vec<f32> {
 fn triangle(random: &mut Random, family: u32) -> Vec<f32> {
     match family {
         1 => scaled_corners(random, |random| f32::MAX * random.float(0.25, 1.0)),
-        5 => scaled_corners(random, any_magnitude),
+        4 | 5 => about_planes(random),
+        6 if random.chance(50) => spoiled(random),
         7 | 9 => around(random),
         8 => scaled_corners(random, |random| random.pick(&[1.0, f32::MAX, f32::INFINITY, 0.0, power_of_two(100)])),
         _ => (0..3).flat_map(|_| vertex(random, family)).collect(),
     }
 }
 
-/// Corners about the view, each with a w of its own that its coordinates are multiples of: differences overflow, or
-/// rounding decides what is inside.
+/// Corners about the view, each with a w of its own that its coordinates are multiples of: differences overflow.
 fn scaled_corners(random: &mut Random, scale: Entry) -> Vec<f32> {
-    let near = random.chance(50);
     let mut floats = Vec::new();
     for _ in 0..3 {
         let mut corner = vertex(random, 0);
         let w = scale(random);
         for value in &mut corner[..3] {
-            let side = random.pick(&[1.0, -1.0, 0.5, 2.0, 3.0]);
-            let off = if near { EPSILON * random.between(-3, 3) as f32 } else { random.float(-0.5, 0.5) };
-            *value = w * (side * (1.0 + off));
+            *value = w * random.float(-1.5, 1.5);
         }
         corner[3] = w;
         floats.extend(corner);
+    }
+    floats
+}
+
+/// Corners a few last places off the planes, each with a w of very different size: rounding decides what is inside, and
+/// a polygon crosses a plane more than twice.
+fn about_planes(random: &mut Random) -> Vec<f32> {
+    let mut floats = Vec::new();
+    for _ in 0..3 {
+        let mut corner = vertex(random, 0);
+        let sign = if random.chance(25) { -1.0 } else { 1.0 };
+        let w = sign * power_of_two(random.between(-60, 60)) * (1.0 + random.unit());
+        for value in &mut corner[..3] {
+            let side = random.pick(&[1.0, -1.0, 1.0, -1.0, 0.5, 2.0]);
+            *value = w * side * (1.0 + EPSILON * random.between(-3, 3) as f32);
+        }
+        if random.chance(60) {
+            corner[2] = corner[2].abs() * random.pick(&[1.0, 0.5, 0.0]);
+        }
+        corner[3] = w;
+        floats.extend(corner);
+    }
+    floats
+}
+
+/// As `around`, with one or two coordinates that are infinite, NaN or about to overflow.
+fn spoiled(random: &mut Random) -> Vec<f32> {
+    let mut floats = around(random);
+    for _ in 0..random.between(1, 2) {
+        let at = 16 * random.below(3) + random.below(4);
+        floats[at as usize] = random.pick(&[f32::INFINITY, f32::NEG_INFINITY, f32::NAN, f32::MAX, -f32::MAX, 1e30]);
     }
     floats
 }
