@@ -17,12 +17,7 @@ fn float_at(record: &[u8], k: usize) -> f32
 {
     let i = k * 4;
     if i + 4 <= record.len() {
-        return ieee::bits::float_of(word(
-            record[i],
-            record[i + 1],
-            record[i + 2],
-            record[i + 3],
-        ));
+        return ieee::bits::float_of(word(record[i], record[i + 1], record[i + 2], record[i + 3]));
     }
     0.0
 }
@@ -38,37 +33,77 @@ fn floats_of(record: &[u8]) -> [f32; 138] {
     x
 }
 
-fn floats(start: u64, s: &[f32]) -> u64 {
+// The first n of s.
+fn floats(start: u64, s: &[f32], n: usize) -> u64
+    requires { ⌜ n ≤ length (now s) ⌝ }
+{
     let mut h = start;
     let mut i: usize = 0;
-    while i < s.len() {
+    while i < n {
         h = digest::word(h, ieee::bits::bits_of(s[i]));
         i += 1;
     }
     h
 }
 
+// An array by its reference has its length by its type.
+fn three(h: u64, out: &[f32; 3]) -> u64 {
+    floats(h, out, 3)
+}
+
+fn four(h: u64, out: &[f32; 4]) -> u64 {
+    floats(h, out, 4)
+}
+
+fn nine(h: u64, out: &[f32; 9]) -> u64 {
+    floats(h, out, 9)
+}
+
+fn sixteen(h: u64, out: &[f32; 16]) -> u64 {
+    floats(h, out, 16)
+}
+
+fn vertices(h: u64, out: &[f32; 448], count: usize) -> u64
+    requires { ⌜ count ≤ 28 ⌝ }
+{
+    floats(h, out, count * 16)
+}
+
 fn transform(h: u64, x: &[f32; 138]) -> u64 {
     let mut out = [0.0; 4];
     vertex_c::vertex_transform(x, &mut out);
-    floats(h, &out)
+    four(h, &out)
 }
 
 fn multiply(h: u64, x: &[f32; 138]) -> u64 {
     let mut out = [0.0; 16];
     vertex_c::vertex_multiply(x, &mut out);
-    floats(h, &out)
+    sixteen(h, &out)
 }
 
 // 1 and the inverse, or 0.
 fn inverse(h: u64, x: &[f32; 138]) -> u64 {
     let mut out = [0.0; 9];
     let cells = [
-        x[0], x[1], x[2], x[3], x[4], x[5], x[6], x[7], x[8], x[9], x[10], x[11], x[12], x[13], x[14],
+        x[0],
+        x[1],
+        x[2],
+        x[3],
+        x[4],
+        x[5],
+        x[6],
+        x[7],
+        x[8],
+        x[9],
+        x[10],
+        x[11],
+        x[12],
+        x[13],
+        x[14],
         x[15],
     ];
     if vertex_c::vertex_inverse(&cells, &mut out) {
-        return floats(digest::word(h, 1), &out);
+        return nine(digest::word(h, 1), &out);
     }
     digest::word(h, 0)
 }
@@ -76,23 +111,34 @@ fn inverse(h: u64, x: &[f32; 138]) -> u64 {
 fn apply(h: u64, x: &[f32; 138]) -> u64 {
     let mut out = [0.0; 3];
     let cells = [
-        x[0], x[1], x[2], x[3], x[4], x[5], x[6], x[7], x[8], x[9], x[10], x[11],
+        x[0],
+        x[1],
+        x[2],
+        x[3],
+        x[4],
+        x[5],
+        x[6],
+        x[7],
+        x[8],
+        x[9],
+        x[10],
+        x[11],
     ];
     vertex_c::vertex_apply(&cells, &mut out);
-    floats(h, &out)
+    three(h, &out)
 }
 
 fn normalize(h: u64, x: &[f32; 138]) -> u64 {
     let mut out = [0.0; 3];
     let vector = [x[0], x[1], x[2]];
     vertex_c::vertex_normalize(&vector, &mut out);
-    floats(h, &out)
+    three(h, &out)
 }
 
 fn shade(h: u64, x: &[f32; 138]) -> u64 {
     let mut out = [0.0; 4];
     vertex_c::vertex_shade(x, &mut out);
-    floats(h, &out)
+    four(h, &out)
 }
 
 // The plane's number stands as a word before the position.
@@ -107,8 +153,7 @@ fn distance(h: u64, x: &[f32; 138]) -> u64 {
 fn clip_all(h: u64, x: &[f32; 138]) -> u64 {
     let mut out = [0.0; 448];
     let count = vertex_c::vertex_clip_all(x, &mut out);
-    let end = count * 16;
-    floats(digest::word(h, count as u32), &out[..end])
+    vertices(digest::word(h, count as u32), &out, count)
 }
 
 fn answer(function: u32, h: u64, x: &[f32; 138]) -> u64 {

@@ -1,15 +1,14 @@
 -- A float at a time. Assumes nothing.
 use Prim.Native.Nat.{_-_, _≤_}
-use lib.ListN.{length}
 use borrow.Author.Needs.{needs}
 use Rattle.vertex_test.proofs.floats.Statement.{statement}
 use Rattle.vertex_test.proofs.floats.Tie as tie
 
 abbrev Inv-loop : tie.InvT-loop
-Inv-loop start s h₀ i₀ h i = i ≤ length s
+Inv-loop start s n h₀ i₀ h i = i ≤ n
 
 abbrev μ-loop : tie.MeasureT-loop
-μ-loop start s h₀ i₀ h i = length s - i
+μ-loop start s n h₀ i₀ h i = n - i
 
 loop-holds : tie.Need-loop-holds Inv-loop μ-loop
 loop-holds c = search needs

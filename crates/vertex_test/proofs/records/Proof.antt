@@ -1,50 +1,47 @@
+-- What is left of the section grows shorter. Assumes nothing.
+use Prim.Native.Nat.{_≤_}
+use mathlib.Core.Path.{sym}
+use native.Mathlib.Omega.{arith}
+use lib.ListN.{length}
+use lib.Seq.{length-take-le}
+use borrow.Author.Needs.{needs}
 use Rattle.vertex_test.proofs.records.Statement.{statement}
 use Rattle.vertex_test.proofs.records.Tie as tie
-use Rattle.vertex_test.proofs.records.Reads as reads
-use Rattle.vertex_test.proofs.records.Lts as lts
-use Rattle.vertex_test.proofs.step.Reads as step-reads
 
 abbrev Inv-loop : tie.InvT-loop
-Inv-loop function size section h₀ rest₀ h rest = ?
+Inv-loop function size section h₀ rest₀ h rest = Unit
 
 abbrev μ-loop : tie.MeasureT-loop
-μ-loop function size section h₀ rest₀ h rest = ?
+μ-loop function size section h₀ rest₀ h rest = length rest
 
--- src/main.rt:138:5
 loop-holds : tie.Need-loop-holds Inv-loop μ-loop
-loop-holds c = ?
+loop-holds c = search needs
 
--- src/main.rt:139:31
 slice-aggregate-step : tie.Need-slice-aggregate-step Inv-loop μ-loop
-slice-aggregate-step c = ?
+slice-aggregate-step c =
+    let fits : c .before .before .before .before .args .size ≤ length (c .before .before .loop .rest .now) = omega arith in
+    sym (length-take-le _ _ fits)
 
--- src/main.rt:139:9
 step-requires : tie.Need-step-requires Inv-loop μ-loop
-step-requires c κs = ?
+step-requires c κs = search needs
 
--- src/main.rt:140:16
 sub-rest : tie.Need-sub-rest Inv-loop μ-loop
-sub-rest c = ?
+sub-rest c = search needs
 
--- src/main.rt:140:16
 part-rest-start : tie.Need-part-rest-start Inv-loop μ-loop
-part-rest-start c = ?
+part-rest-start c = search needs
 
--- src/main.rt:140:16
 part-rest-end : tie.Need-part-rest-end Inv-loop μ-loop
-part-rest-end c = ?
+part-rest-end c = search needs
 
--- src/main.rt:138:5
 loop-less : tie.Need-loop-less Inv-loop μ-loop
-loop-less c = ?
+loop-less c = search needs
 
--- src/main.rt:138:5
 loop-again : tie.Need-loop-again Inv-loop μ-loop
-loop-again c = ?
+loop-again c = search needs
 
--- src/main.rt:133:1
 returns : tie.Need-returns Inv-loop μ-loop
-returns c = ?
+returns c = search needs
 
 pub records-spec : {M : Type 1} → statement M
 records-spec =
