@@ -83,7 +83,8 @@ impl Seen {
             self.differences += 1;
             if self.differences == 1 {
                 let lines = [record, original, port].map(word_line);
-                self.first = format!("  input    {}\n  original {}\n  port     {}\n", lines[0], lines[1], lines[2]);
+                self.first =
+                    format!("  input    {}\n  original {}\n  port     {}\n", lines[0], lines[1], lines[2]);
             }
         }
     }

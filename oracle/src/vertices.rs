@@ -354,7 +354,9 @@ fn triangle(random: &mut Random, family: u32) -> Vec<f32> {
         4 | 5 => about_planes(random),
         6 if random.chance(50) => spoiled(random),
         7 | 9 => around(random),
-        8 => scaled_corners(random, |random| random.pick(&[1.0, f32::MAX, f32::INFINITY, 0.0, power_of_two(100)])),
+        8 => scaled_corners(random, |random| {
+            random.pick(&[1.0, f32::MAX, f32::INFINITY, 0.0, power_of_two(100)])
+        }),
         _ => (0..3).flat_map(|_| vertex(random, family)).collect(),
     }
 }
@@ -400,7 +402,8 @@ fn spoiled(random: &mut Random) -> Vec<f32> {
     let mut floats = around(random);
     for _ in 0..random.between(1, 2) {
         let at = 16 * random.below(3) + random.below(4);
-        floats[at as usize] = random.pick(&[f32::INFINITY, f32::NEG_INFINITY, f32::NAN, f32::MAX, -f32::MAX, 1e30]);
+        floats[at as usize] =
+            random.pick(&[f32::INFINITY, f32::NEG_INFINITY, f32::NAN, f32::MAX, -f32::MAX, 1e30]);
     }
     floats
 }
