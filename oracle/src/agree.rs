@@ -26,40 +26,64 @@ extern "C" {
     fn vertex_clip_all(x: *const f32, length: usize, out: *mut f32) -> usize;
 }
 
+type Room = [f32; ROOM];
+
+/// The functions that always write the same number of floats, which is the answer here.
+fn written(function: &str, floats: &[f32], room: &mut Room) -> usize {
+    let (x, length, out) = (floats.as_ptr(), floats.len(), room.as_mut_ptr());
+    // SAFETY: records have the lengths that the exports ask for, and `room` is long enough for every answer.
+    unsafe {
+        match function {
+            "transform" => vertex_transform(x, length, out),
+            "multiply" => vertex_multiply(x, length, out),
+            "apply" => vertex_apply(x, out),
+            "normalize" => vertex_normalize(x, out),
+            _ => vertex_shade(x, length, out),
+        }
+    }
+    match function {
+        "multiply" => 16,
+        "apply" | "normalize" => 3,
+        _ => 4,
+    }
+}
+
+/// How many vertices a clip writes.
+fn clipped(function: &str, floats: &[f32], plane: usize, room: &mut Room) -> usize {
+    let (x, length, out) = (floats.as_ptr(), floats.len(), room.as_mut_ptr());
+    // SAFETY: as in `written`; the generator makes 19 vertices at most.
+    unsafe {
+        match function {
+            "clip" => vertex_clip(x, length, length / 16, plane, out),
+            _ => vertex_clip_all(x, length, out),
+        }
+    }
+}
+
 /// The port's answer in the layout of `single`, no words for "none".
 fn port(function: &str, words: &[u32]) -> Vec<u32> {
-    let planed = matches!(function, "distance" | "clip");
+    let planes = matches!(function, "distance" | "clip") as usize;
     let plane = words[0] as usize;
-    let floats: Vec<f32> = words[planed as usize..].iter().map(|word| f32::from_bits(*word)).collect();
-    let (x, length) = (floats.as_ptr(), floats.len());
-    let mut room = [0.0f32; ROOM];
-    let out = room.as_mut_ptr();
-    let mut head = Vec::new();
-    // Records have the lengths that the contracts ask for, and `out` has room for every answer.
-    let written = unsafe {
-        match function {
-            "transform" => (vertex_transform(x, length, out), 4).1,
-            "multiply" => (vertex_multiply(x, length, out), 16).1,
-            "inverse" => 9 * vertex_inverse(x, out) as usize,
-            "apply" => (vertex_apply(x, out), 3).1,
-            "normalize" => (vertex_normalize(x, out), 3).1,
-            "shade" => (vertex_shade(x, length, out), 4).1,
-            "distance" => {
-                *out = vertex_distance(x, length, plane);
-                1
-            }
-            _ => {
-                let count = match function {
-                    "clip" => vertex_clip(x, length, length / 16, plane, out),
-                    _ => vertex_clip_all(x, length, out),
-                };
-                head.push(count as u32);
-                16 * count
-            }
+    let floats: Vec<f32> = words[planes..].iter().map(|word| f32::from_bits(*word)).collect();
+    let mut room = [0.0; ROOM];
+    let mut answer = Vec::new();
+    let count = match function {
+        // SAFETY: as in `written`.
+        "inverse" => 9 * unsafe { vertex_inverse(floats.as_ptr(), room.as_mut_ptr()) } as usize,
+        "distance" => {
+            // SAFETY: as in `written`.
+            room[0] = unsafe { vertex_distance(floats.as_ptr(), floats.len(), plane) };
+            1
         }
+        "clip" | "clip_all" => {
+            let vertices = clipped(function, &floats, plane, &mut room);
+            answer.push(vertices as u32);
+            16 * vertices
+        }
+        _ => written(function, &floats, &mut room),
     };
-    head.extend(room[..written].iter().map(|float| bits(*float)));
-    head
+    answer.extend(room[..count].iter().map(|float| bits(*float)));
+    answer
 }
 
 /// What was seen of one function.
