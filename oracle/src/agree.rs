@@ -17,9 +17,9 @@ const ROOM: usize = 448;
 extern "C" {
     fn vertex_transform(x: *const f32, length: usize, out: *mut f32);
     fn vertex_multiply(x: *const f32, length: usize, out: *mut f32);
-    fn vertex_inverse(x: *const f32, out: *mut f32) -> bool;
-    fn vertex_apply(x: *const f32, out: *mut f32);
-    fn vertex_normalize(x: *const f32, out: *mut f32);
+    fn vertex_inverse(x: *const f32, length: usize, out: *mut f32) -> bool;
+    fn vertex_apply(x: *const f32, length: usize, out: *mut f32);
+    fn vertex_normalize(x: *const f32, length: usize, out: *mut f32);
     fn vertex_shade(x: *const f32, length: usize, out: *mut f32);
     fn vertex_distance(x: *const f32, length: usize, plane: usize) -> f32;
     fn vertex_clip(x: *const f32, length: usize, count: usize, plane: usize, out: *mut f32) -> usize;
@@ -36,8 +36,8 @@ fn written(function: &str, floats: &[f32], room: &mut Room) -> usize {
         match function {
             "transform" => vertex_transform(x, length, out),
             "multiply" => vertex_multiply(x, length, out),
-            "apply" => vertex_apply(x, out),
-            "normalize" => vertex_normalize(x, out),
+            "apply" => vertex_apply(x, length, out),
+            "normalize" => vertex_normalize(x, length, out),
             _ => vertex_shade(x, length, out),
         }
     }
@@ -46,6 +46,11 @@ fn written(function: &str, floats: &[f32], room: &mut Room) -> usize {
         "apply" | "normalize" => 3,
         _ => 4,
     }
+}
+
+fn inverted(floats: &[f32], room: &mut Room) -> bool {
+    // SAFETY: as in `written`.
+    unsafe { vertex_inverse(floats.as_ptr(), floats.len(), room.as_mut_ptr()) }
 }
 
 /// How many vertices a clip writes.
@@ -68,8 +73,7 @@ fn port(function: &str, words: &[u32]) -> Vec<u32> {
     let mut room = [0.0; ROOM];
     let mut answer = Vec::new();
     let count = match function {
-        // SAFETY: as in `written`.
-        "inverse" => 9 * unsafe { vertex_inverse(floats.as_ptr(), room.as_mut_ptr()) } as usize,
+        "inverse" => 9 * inverted(&floats, &mut room) as usize,
         "distance" => {
             // SAFETY: as in `written`.
             room[0] = unsafe { vertex_distance(floats.as_ptr(), floats.len(), plane) };

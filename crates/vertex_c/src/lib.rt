@@ -37,8 +37,10 @@ fn nine(m: Matrix3) -> [f32; 9] {
 
 // A matrix of 16. Where there is no inverse the answer is false and nothing is written.
 #[no_mangle]
-pub extern "C" fn vertex_inverse(x: &[f32; 16], out: &mut [f32; 9]) -> bool {
-    let cells = *x;
+pub extern "C" fn vertex_inverse(x: &[f32], out: &mut [f32; 9]) -> bool
+    requires { ⌜ 16 ≤ length (now x) ⌝ }
+{
+    let cells = record::sixteen(x);
     let inverse = vector::normal::inverse_transpose_3x3(Matrix { cells: cells });
     match inverse {
         Inverse::Of(m) => {
@@ -51,7 +53,9 @@ pub extern "C" fn vertex_inverse(x: &[f32; 16], out: &mut [f32; 9]) -> bool {
 
 // Three by three matrix 9, normal 3.
 #[no_mangle]
-pub extern "C" fn vertex_apply(x: &[f32; 12], out: &mut [f32; 3]) {
+pub extern "C" fn vertex_apply(x: &[f32], out: &mut [f32; 3])
+    requires { ⌜ 12 ≤ length (now x) ⌝ }
+{
     let m = Matrix3 {
         a: x[0],
         b: x[1],
@@ -63,12 +67,14 @@ pub extern "C" fn vertex_apply(x: &[f32; 12], out: &mut [f32; 3]) {
         h: x[7],
         i: x[8],
     };
-    *out = vector::normal::apply_normal_matrix(m, [x[9], x[10], x[11]]);
+    *out = vector::normal::apply_normal_matrix(m, record::three(x, 9));
 }
 
 #[no_mangle]
-pub extern "C" fn vertex_normalize(x: &[f32; 3], out: &mut [f32; 3]) {
-    *out = vector::three::normalize(*x);
+pub extern "C" fn vertex_normalize(x: &[f32], out: &mut [f32; 3])
+    requires { ⌜ 3 ≤ length (now x) ⌝ }
+{
+    *out = vector::three::normalize(record::three(x, 0));
 }
 
 // Albedo 4, position 3, normal 3, eight lights of 16.

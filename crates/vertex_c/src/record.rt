@@ -22,6 +22,29 @@ pub fn four(x: &[f32], k: usize) -> [f32; 4]
     [x[k], x[k + 1], x[k + 2], x[k + 3]]
 }
 
+pub fn sixteen(x: &[f32]) -> [f32; 16]
+    requires { ⌜ 16 ≤ length (now x) ⌝ }
+{
+    [
+        x[0],
+        x[1],
+        x[2],
+        x[3],
+        x[4],
+        x[5],
+        x[6],
+        x[7],
+        x[8],
+        x[9],
+        x[10],
+        x[11],
+        x[12],
+        x[13],
+        x[14],
+        x[15],
+    ]
+}
+
 // The record's cells from the start of the machine's three matrices on, then zeros.
 pub fn matrices(x: &[f32]) -> [f32; 48] {
     let mut m = [0.0; 48];

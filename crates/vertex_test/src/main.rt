@@ -84,25 +84,7 @@ fn multiply(h: u64, x: &[f32; 138]) -> u64 {
 // 1 and the inverse, or 0.
 fn inverse(h: u64, x: &[f32; 138]) -> u64 {
     let mut out = [0.0; 9];
-    let cells = [
-        x[0],
-        x[1],
-        x[2],
-        x[3],
-        x[4],
-        x[5],
-        x[6],
-        x[7],
-        x[8],
-        x[9],
-        x[10],
-        x[11],
-        x[12],
-        x[13],
-        x[14],
-        x[15],
-    ];
-    if vertex_c::vertex_inverse(&cells, &mut out) {
+    if vertex_c::vertex_inverse(x, &mut out) {
         return nine(digest::word(h, 1), &out);
     }
     digest::word(h, 0)
@@ -110,28 +92,13 @@ fn inverse(h: u64, x: &[f32; 138]) -> u64 {
 
 fn apply(h: u64, x: &[f32; 138]) -> u64 {
     let mut out = [0.0; 3];
-    let cells = [
-        x[0],
-        x[1],
-        x[2],
-        x[3],
-        x[4],
-        x[5],
-        x[6],
-        x[7],
-        x[8],
-        x[9],
-        x[10],
-        x[11],
-    ];
-    vertex_c::vertex_apply(&cells, &mut out);
+    vertex_c::vertex_apply(x, &mut out);
     three(h, &out)
 }
 
 fn normalize(h: u64, x: &[f32; 138]) -> u64 {
     let mut out = [0.0; 3];
-    let vector = [x[0], x[1], x[2]];
-    vertex_c::vertex_normalize(&vector, &mut out);
+    vertex_c::vertex_normalize(x, &mut out);
     three(h, &out)
 }
 
