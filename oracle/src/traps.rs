@@ -1,6 +1,11 @@
 //! Records that stand first in the fixed list: what a reader may expect otherwise, chosen by hand.
 
+use crate::vertices::record;
+
 const MAX: f32 = f32::MAX;
+
+/// Seed and index of a triangle of which the six planes leave twelve vertices.
+const TWELVE: (u64, u64) = (3, 4_155_954);
 
 fn bits(floats: &[f32]) -> Vec<u32> {
     floats.iter().map(|float| float.to_bits()).collect()
@@ -104,5 +109,7 @@ fn clip_all() -> Vec<Vec<u32>> {
         [inside, [f32::INFINITY, 0.0, 0.5, f32::INFINITY], [0.0, 0.5, 0.5, 1.0]],
         [[0.0; 4], [0.0; 4], [-0.0; 4]],
     ];
-    corners.map(triangle).to_vec()
+    let mut triangles = corners.map(triangle).to_vec();
+    triangles.push(record("clip_all", TWELVE.0, TWELVE.1));
+    triangles
 }
