@@ -6,8 +6,7 @@ mod record;
 use vector::matrix::Matrix;
 use vector::normal::Inverse;
 use vector::normal::Matrix3;
-ghost use mathlib.Core.Path.{_≡_};
-ghost use Prim.Native.Nat.{_+_, _*_, _≤_};
+ghost use Prim.Native.Nat.{_*_, _≤_};
 ghost use lib.ListN.{length};
 
 // Matrix 16, position 4.

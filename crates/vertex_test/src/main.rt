@@ -3,8 +3,7 @@
 // each section it prints the function's name and the digest of all its answers.
 use libc::STDIN_FILENO;
 use libc::STDOUT_FILENO;
-ghost use mathlib.Core.Path.{_≡_};
-ghost use Prim.Native.Nat.{_*_, _<_, _≤_};
+ghost use Prim.Native.Nat.{_<_, _≤_};
 ghost use lib.ListN.{length};
 
 fn word(a: u8, b: u8, c: u8, d: u8) -> u32 {
@@ -46,7 +45,7 @@ fn floats(start: u64, s: &[f32], n: usize) -> u64
     h
 }
 
-// An array by its reference has its length by its type.
+// An answer that was lent as `&mut` is lent on by one of these, whose type says its length.
 fn three(h: u64, out: &[f32; 3]) -> u64 {
     floats(h, out, 3)
 }
