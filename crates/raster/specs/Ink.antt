@@ -8,7 +8,8 @@ use lib.ListN.{getD}
 use lib.Ieee.{Float, binary32, ofBits, ofInt}
 use Rattle.ieee.specs.Range.{clampOf, tinyOf}
 use Rattle.ieee.specs.Casts as casts
-use Rattle.vector.specs.Three.{_⊕_, _·_, _⊘_}
+use Rattle.vector.specs.Three.{_⊕_, _·_, _⊘_, at}
+use Rattle.clip.specs.declared.vertex.ClipVertex.{ClipVertex}
 use Rattle.screen.specs.declared.plane.Rgba.{Rgba}
 use Rattle.raster.specs.declared.face.Corners.{Corners}
 use Rattle.raster.specs.declared.ink.Color.{Color}
@@ -18,6 +19,7 @@ use Rattle.raster.specs.declared.ink.Ink.{Ink}
 use Rattle.raster.specs.declared.ink.Ink.the-variants.{Flat, Blend, Plain, Tinted, Mixed}
 use Rattle.raster.specs.declared.ink.Shade.{Shade}
 use Rattle.raster.specs.declared.ink.Shade.the-variants.{Blank, Of}
+use Rattle.raster.specs.Face.{corner}
 use Rattle.raster.specs.Pixel.{mixOf}
 
 -- `(value.clamp(0.0, 1.0) * 255.0 + 0.5) as u8`
@@ -27,6 +29,19 @@ byteOf v = casts.unitByteOf (clampOf v)
 -- `rgba`
 unfoldable pub rgbaOf : Color → Rgba
 rgbaOf c = record { r = byteOf (c .r); g = byteOf (c .g); b = byteOf (c .b); a = byteOf (c .a) }
+
+-- `tri[i].color[channel]` and `tri[i].uv[c]`, for the three corners
+abbrev pub channelOf : List ClipVertex → ℕ → Corners
+channelOf tri k = record { c0 = at (corner tri 0 .color) k; c1 = at (corner tri 1 .color) k; c2 = at (corner tri 2 .color) k }
+
+abbrev pub uvOf : List ClipVertex → ℕ → Corners
+uvOf tri k = record { c0 = at (corner tri 0 .uv) k; c1 = at (corner tri 1 .uv) k; c2 = at (corner tri 2 .uv) k }
+
+unfoldable pub colorsOf : List ClipVertex → Colors
+colorsOf tri = record { r = channelOf tri 0; g = channelOf tri 1; b = channelOf tri 2; a = channelOf tri 3 }
+
+unfoldable pub samplerOf : List ClipVertex → ℕ → ℕ → Sampler
+samplerOf tri width height = record { width = width; height = height; u = uvOf tri 0; v = uvOf tri 1 }
 
 -- ---- `rasterize_transformed_triangle`: a colour divided by w. b is `bary`, i is `inv_w`, d the `denominator`
 -- `(bary[0] * tri[0].color[channel] * inv_w[0] + ..) / denominator`

@@ -1,10 +1,11 @@
 // What a triangle is painted with, and the colour that it gives at a pixel.
 use crate::face::Corners;
+use clip::vertex::ClipVertex;
 use screen::plane::Rgba;
 ghost use mathlib.Core.Path.{_≡_};
 ghost use Prim.Native.Nat.{_*_, _<_};
 ghost use lib.ListN.{length};
-ghost use Rattle.raster.specs.Ink.{byteOf, rgbaOf, dividedOf, blendOf, Texture, placeOf, halfOf, nibblesOf, texelOf, unitOf, plainOf, tintedOf, mixedOf, Stored, shadeOf};
+ghost use Rattle.raster.specs.Ink.{byteOf, rgbaOf, dividedOf, blendOf, Texture, placeOf, halfOf, nibblesOf, texelOf, unitOf, plainOf, tintedOf, mixedOf, Stored, shadeOf, colorsOf, samplerOf};
 
 // An interpolated colour, or a flat one.
 pub struct Color {
@@ -185,5 +186,58 @@ pub fn shade_at(texels: &[u32], ink: Ink, b: Corners, i: Corners) -> Shade
         Ink::Plain(s) => Shade::Of(rgba_of(plain(texel(texels, s, b)))),
         Ink::Tinted(s, c) => Shade::Of(rgba_of(tinted(plain(texel(texels, s, b)), c))),
         Ink::Mixed(s, c) => Shade::Of(rgba_of(tinted(plain(texel(texels, s, b)), mixed(c, b)))),
+    }
+}
+
+// `tri[0].color[channel]` and the other corners'.
+pub fn colors_of(tri: [ClipVertex; 3]) -> Colors
+    ensures { λ r. ⌜ r ≡ colorsOf tri ⌝ }
+{
+    let v0 = tri[0];
+    let v1 = tri[1];
+    let v2 = tri[2];
+    Colors {
+        r: Corners {
+            c0: v0.color[0],
+            c1: v1.color[0],
+            c2: v2.color[0],
+        },
+        g: Corners {
+            c0: v0.color[1],
+            c1: v1.color[1],
+            c2: v2.color[1],
+        },
+        b: Corners {
+            c0: v0.color[2],
+            c1: v1.color[2],
+            c2: v2.color[2],
+        },
+        a: Corners {
+            c0: v0.color[3],
+            c1: v1.color[3],
+            c2: v2.color[3],
+        },
+    }
+}
+
+pub fn sampler_of(tri: [ClipVertex; 3], width: u32, height: u32) -> Sampler
+    ensures { λ r. ⌜ r ≡ samplerOf tri width height ⌝ }
+{
+    let v0 = tri[0];
+    let v1 = tri[1];
+    let v2 = tri[2];
+    Sampler {
+        width,
+        height,
+        u: Corners {
+            c0: v0.uv[0],
+            c1: v1.uv[0],
+            c2: v2.uv[0],
+        },
+        v: Corners {
+            c0: v0.uv[1],
+            c1: v1.uv[1],
+            c2: v2.uv[1],
+        },
     }
 }
