@@ -12,14 +12,14 @@ use Rattle.laws.specs.Cells.{mapRange}
 use Rattle.laws.proofs.Cells.{range-swap}
 use Rattle.screen.specs.Plane.{width}
 use Rattle.screen.proofs.Draw.{drawn-none, drawn-one}
-use Rattle.raster.specs.declared.face.Bounds.{Bounds}
-use Rattle.raster.specs.declared.face.Face.{Face}
+use Rattle.face.specs.declared.Bounds.{Bounds}
+use Rattle.face.specs.declared.Face.{Face}
 use Rattle.raster.specs.declared.ink.Ink.{Ink}
 use Rattle.raster.specs.declared.ink.Shade.{Shade}
-use Rattle.raster.specs.Pixel.{within, covers, baryOf, depthAt, passesOf}
+use Rattle.face.specs.Pixel.{within, covers, baryOf, depthAt, passesOf}
 use Rattle.raster.specs.Ink.{shadeOf}
 use Rattle.raster.specs.Raster.{showsAt, shows, newDepth, inked, inkAt}
-use Rattle.raster.specs.Row.{FaceDrawn}
+use Rattle.raster.specs.Steps.{FaceDrawn}
 
 and-false : (b : Bool) → (b && false) ≡ false
 and-false true = refl

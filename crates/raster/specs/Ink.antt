@@ -11,7 +11,7 @@ use Rattle.ieee.specs.Casts as casts
 use Rattle.vector.specs.Three.{_⊕_, _·_, _⊘_, at}
 use Rattle.clip.specs.declared.vertex.ClipVertex.{ClipVertex}
 use Rattle.screen.specs.declared.plane.Rgba.{Rgba}
-use Rattle.raster.specs.declared.face.Corners.{Corners}
+use Rattle.face.specs.declared.Corners.{Corners}
 use Rattle.raster.specs.declared.ink.Color.{Color}
 use Rattle.raster.specs.declared.ink.Colors.{Colors}
 use Rattle.raster.specs.declared.ink.Sampler.{Sampler}
@@ -19,8 +19,8 @@ use Rattle.raster.specs.declared.ink.Ink.{Ink}
 use Rattle.raster.specs.declared.ink.Ink.the-variants.{Flat, Blend, Plain, Tinted, Mixed}
 use Rattle.raster.specs.declared.ink.Shade.{Shade}
 use Rattle.raster.specs.declared.ink.Shade.the-variants.{Blank, Of}
-use Rattle.raster.specs.Face.{corner}
-use Rattle.raster.specs.Pixel.{mixOf}
+use Rattle.face.specs.Face.{corner}
+use Rattle.face.specs.Pixel.{mixOf}
 
 -- `(value.clamp(0.0, 1.0) * 255.0 + 0.5) as u8`
 unfoldable pub byteOf : Float → ℕ

@@ -1,6 +1,4 @@
-pub mod Face
-pub mod Pixel
 pub mod Ink
 pub mod Raster
 pub mod Triangles
-pub mod Row
+pub mod Steps

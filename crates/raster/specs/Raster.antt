@@ -6,13 +6,13 @@ use lib.Ieee.{Float, nan}
 use Rattle.laws.specs.Cells.{mapAt}
 use Rattle.screen.specs.Plane.{width, paint}
 use Rattle.screen.specs.Draw.{depthStep, byteStep}
-use Rattle.raster.specs.declared.face.Face.{Face}
-use Rattle.raster.specs.declared.face.Setup.{Setup}
-use Rattle.raster.specs.declared.face.Setup.the-variants.{Drawn, Nothing}
+use Rattle.face.specs.declared.Face.{Face}
+use Rattle.face.specs.declared.Setup.{Setup}
+use Rattle.face.specs.declared.Setup.the-variants.{Drawn, Nothing}
 use Rattle.raster.specs.declared.ink.Ink.{Ink}
 use Rattle.raster.specs.declared.ink.Shade.{Shade}
 use Rattle.raster.specs.declared.ink.Shade.the-variants.{Blank, Of}
-use Rattle.raster.specs.Pixel.{within, covers, baryOf, depthAt, passesOf}
+use Rattle.face.specs.Pixel.{within, covers, baryOf, depthAt, passesOf}
 use Rattle.raster.specs.Ink.{shadeOf}
 
 -- does it show at (x, y), whose depth is old? In the box, inside the edges, and not behind

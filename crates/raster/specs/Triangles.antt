@@ -10,7 +10,7 @@ use Rattle.raster.specs.declared.Flat.the-variants as flat
 use Rattle.raster.specs.declared.ink.Color.{Color}
 use Rattle.raster.specs.declared.ink.Ink.{Ink}
 use Rattle.raster.specs.declared.ink.Ink.the-variants as ink
-use Rattle.raster.specs.Face.{setupOf}
+use Rattle.face.specs.Face.{setupOf}
 use Rattle.raster.specs.Ink.{rgbaOf, colorsOf, samplerOf}
 use Rattle.raster.specs.Raster.{depthsAfter, planeAfter}
 

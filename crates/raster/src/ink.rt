@@ -1,6 +1,6 @@
 // What a triangle is painted with, and the colour that it gives at a pixel.
-use crate::face::Corners;
 use clip::vertex::ClipVertex;
+use face::Corners;
 use screen::plane::Rgba;
 ghost use mathlib.Core.Path.{_≡_};
 ghost use Prim.Native.Nat.{_*_, _<_};
@@ -86,7 +86,7 @@ fn blend(c: Colors, b: Corners, i: Corners, d: f32) -> Color
 fn blended(texels: &[u32], c: Colors, b: Corners, i: Corners) -> Shade
     ensures { λ r. ⌜ r ≡ shadeOf (now (texels .entry)) (Ink.Blend c) b i ⌝ }
 {
-    let denominator = crate::face::mix(b, i);
+    let denominator = face::mix(b, i);
     if ieee::range::tiny(denominator) {
         return Shade::Blank;
     }
@@ -98,8 +98,8 @@ fn place(s: Sampler, b: Corners, n: usize) -> usize
     requires { ⌜ Texture (s .width) (s .height) n ⌝ }
     ensures { λ r. ⌜ (r ≡ placeOf s b) × (r < s .width * s .height) ⌝ }
 {
-    let u = crate::face::mix(b, s.u);
-    let v = crate::face::mix(b, s.v);
+    let u = face::mix(b, s.u);
+    let v = face::mix(b, s.v);
     ieee::cast::texel(v, s.height) * (s.width as usize) + ieee::cast::texel(u, s.width)
 }
 
@@ -168,10 +168,10 @@ fn mixed(c: Colors, b: Corners) -> Color
     ensures { λ r. ⌜ r ≡ mixedOf c b ⌝ }
 {
     Color {
-        r: ieee::range::clamp01(crate::face::mix(b, c.r)),
-        g: ieee::range::clamp01(crate::face::mix(b, c.g)),
-        b: ieee::range::clamp01(crate::face::mix(b, c.b)),
-        a: ieee::range::clamp01(crate::face::mix(b, c.a)),
+        r: ieee::range::clamp01(face::mix(b, c.r)),
+        g: ieee::range::clamp01(face::mix(b, c.g)),
+        b: ieee::range::clamp01(face::mix(b, c.b)),
+        a: ieee::range::clamp01(face::mix(b, c.a)),
     }
 }
 

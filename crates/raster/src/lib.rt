@@ -1,5 +1,6 @@
 // The float rasterisers: `rasterize_transformed_triangle` and `rasterize_textured_triangle` of the
-// original. A triangle is set up (`face`), and its pixels are painted (`rows`) with an ink (`ink`).
+// original. A triangle is set up by the crate `face`; its pixels are painted (`rows`) with an ink
+// (`ink`).
 use crate::ink::Color;
 use crate::ink::Ink;
 use clip::vertex::ClipVertex;
@@ -10,7 +11,6 @@ ghost use Rattle.screen.specs.Draw.{pixels};
 ghost use Rattle.raster.specs.Ink.{Texture};
 ghost use Rattle.raster.specs.Triangles.{transformedInk, texturedInk, transformedDepths, transformedPlane, texturedDepths, texturedPlane};
 
-pub mod face;
 pub mod ink;
 mod rows;
 

@@ -1,10 +1,10 @@
 // A triangle that is set up, painted by rows within its box. One pair of loops serves every ink.
-use crate::face::Corners;
-use crate::face::Edges;
-use crate::face::Face;
-use crate::face::Setup;
 use crate::ink::Ink;
 use crate::ink::Shade;
+use face::Corners;
+use face::Edges;
+use face::Face;
+use face::Setup;
 use screen::plane::VPU_WIDTH;
 ghost use mathlib.Core.Path.{_≡_};
 ghost use mathlib.Core.Bool.{true};
@@ -13,10 +13,11 @@ ghost use lib.ListN.{length};
 ghost use Rattle.laws.specs.Cells.{mapRange};
 ghost use Rattle.screen.specs.Plane.{width, height, planeBytes};
 ghost use Rattle.screen.specs.Draw.{pixels};
-ghost use Rattle.raster.specs.Face.{OnScreen};
-ghost use Rattle.raster.specs.Pixel.{covers, weight0, weight1, weight2};
+ghost use Rattle.face.specs.Face.{OnScreen};
+ghost use Rattle.face.specs.Pixel.{covers, weight0, weight1, weight2};
 ghost use Rattle.raster.specs.Ink.{Stored};
-ghost use Rattle.raster.specs.Row.{edgesOf, FaceDrawn, Ready, Inside};
+ghost use Rattle.face.specs.Row.{edgesOf};
+ghost use Rattle.raster.specs.Steps.{FaceDrawn, Ready, Inside};
 ghost use Rattle.raster.specs.Raster.{inked, depthsAfter, planeAfter};
 
 fn put(plane: &mut [u8], x: usize, y: usize, shade: Shade)
@@ -54,9 +55,9 @@ fn cover(
         c1: w1 / f.area,
         c2: w2 / f.area,
     };
-    let z = crate::face::mix(bary, f.depth);
+    let z = face::mix(bary, f.depth);
     let index = y * VPU_WIDTH + x;
-    if crate::face::passes(z, depth[index]) {
+    if face::passes(z, depth[index]) {
         depth[index] = z;
         put(
             plane,
@@ -83,13 +84,13 @@ fn draw_pixel(
     requires { ⌜ edges ≡ edgesOf f y ⌝ }
     ensures { λ _. ⌜ FaceDrawn (now (texels .entry)) ink f (y * width + x) (y * width + x + 1) (now (depth .entry)) (now (plane .entry)) (now (depth .exit)) (now (plane .exit)) ⌝ }
 {
-    let px = crate::face::centre(x);
-    let w0 = crate::face::at_column(edges.w0, px);
-    if crate::face::keeps(f.area, w0) {
-        let w1 = crate::face::at_column(edges.w1, px);
-        if crate::face::keeps(f.area, w1) {
-            let w2 = crate::face::at_column(edges.w2, px);
-            if crate::face::keeps(f.area, w2) {
+    let px = face::centre(x);
+    let w0 = face::at_column(edges.w0, px);
+    if face::keeps(f.area, w0) {
+        let w1 = face::at_column(edges.w1, px);
+        if face::keeps(f.area, w1) {
+            let w2 = face::at_column(edges.w2, px);
+            if face::keeps(f.area, w2) {
                 cover(plane, depth, texels, ink, f, x, y, w0, w1, w2);
             }
         }
@@ -101,7 +102,7 @@ fn draw_row(plane: &mut [u8], depth: &mut [f32], texels: &[u32], ink: Ink, f: Fa
     requires { ⌜ (f .bounds .top ≤ y) × (y < f .bounds .bottom) ⌝ }
     ensures { λ _. ⌜ FaceDrawn (now (texels .entry)) ink f (y * width) (y * width + width) (now (depth .entry)) (now (plane .entry)) (now (depth .exit)) (now (plane .exit)) ⌝ }
 {
-    let edges = crate::face::edges_of(f, y);
+    let edges = face::edges_of(f, y);
     for x in f.bounds.left..f.bounds.right {
         draw_pixel(plane, depth, texels, ink, f, edges, x, y);
     }

@@ -10,28 +10,19 @@ use Rattle.raster.proofs.Grid.{grid, small}
 use borrow.Author.Needs.{needs}
 use Rattle.raster.proofs.ink.place.Statement.{statement}
 use Rattle.raster.proofs.ink.place.Tie as tie
-use Rattle.raster.proofs.ink.place.Reads as reads
-use Rattle.raster.proofs.ink.place.Lts as lts
-use Rattle.ieee.proofs.cast.texel.Reads as texel-reads
-use Rattle.raster.proofs.face.mix.Reads as mix-reads
 
--- src/ink.rt:100:9
 mix-requires : tie.Need-mix-requires
 mix-requires c κs = search needs
 
--- src/ink.rt:101:9
 mix-requires-2 : tie.Need-mix-requires-2
 mix-requires-2 c κs = search needs
 
--- src/ink.rt:102:5
 texel-requires : tie.Need-texel-requires
 texel-requires c κs = search needs
 
--- src/ink.rt:102:39
 cast-result : tie.Need-cast-result
 cast-result c = search needs
 
--- src/ink.rt:102:5
 mul-result : tie.Need-mul-result
 mul-result c =
     let s = c .before .before .before .before in
@@ -41,11 +32,9 @@ mul-result c =
     let l = grid (g .width) (g .height) 0 (c .before .texel .result) (h .some-width) (h .some-height) (omega arith) y in
     record { fits = omega (arith, l, small (g .width) (g .height) (h .top-width) (h .top-height)) }
 
--- src/ink.rt:102:59
 texel-requires-2 : tie.Need-texel-requires-2
 texel-requires-2 c κs = search needs
 
--- src/ink.rt:102:5
 add-result : tie.Need-add-result
 add-result c =
     let s = c .before .before .before .before .before in
@@ -56,7 +45,6 @@ add-result c =
     let l = grid (g .width) (g .height) (c .texel2 .result) (c .before .before .texel .result) (h .some-width) (h .some-height) x y in
     record { fits = omega (arith, l, small (g .width) (g .height) (h .top-width) (h .top-height)) }
 
--- src/ink.rt:96:1
 returns : tie.Need-returns
 unfolding placeOf
 returns c =

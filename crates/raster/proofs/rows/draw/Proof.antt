@@ -6,15 +6,10 @@ use Rattle.raster.specs.Raster.{depthsAfter, planeAfter}
 use borrow.Author.Needs.{needs}
 use Rattle.raster.proofs.rows.draw.Statement.{statement}
 use Rattle.raster.proofs.rows.draw.Tie as tie
-use Rattle.raster.proofs.rows.draw.Reads as reads
-use Rattle.raster.proofs.rows.draw.Lts as lts
-use Rattle.raster.proofs.rows.draw_rows.Reads as draw-rows-reads
 
--- src/rows.rt:123:22
 enum-known-setup : tie.Need-enum-known-setup
 enum-known-setup c = search needs
 
--- src/rows.rt:123:28
 draw-rows-requires : tie.Need-draw-rows-requires
 draw-rows-requires c κs =
     let k = c .before .before .before in
@@ -25,15 +20,12 @@ draw-rows-requires c κs =
 enum-told : tie.Need-enum-told
 enum-told c = search needs
 
--- src/rows.rt:114:1
 same-length : tie.Need-same-length
 same-length c = search needs
 
--- src/rows.rt:114:1
 same-length-2 : tie.Need-same-length-2
 same-length-2 c = search needs
 
--- src/rows.rt:114:1
 returns : tie.Need-returns
 unfolding depthsAfter planeAfter
 returns c =
@@ -42,7 +34,6 @@ returns c =
     let s = k .before .before .before .before .before in
     rw (k .setup .given .1) (drawn-all (call .draw-rows .ensures) (omega (arith, s .pre .1 .0)) (omega (arith, s .pre .0)))
 
--- src/rows.rt:114:1
 returns-2 : tie.Need-returns-2
 unfolding depthsAfter planeAfter
 returns-2 c = rw (c .enum-told .given .1) (refl, refl)

@@ -5,31 +5,23 @@ use Rattle.raster.specs.Raster.{inked}
 use borrow.Author.Needs.{needs}
 use Rattle.raster.proofs.rows.put.Statement.{statement}
 use Rattle.raster.proofs.rows.put.Tie as tie
-use Rattle.raster.proofs.rows.put.Reads as reads
-use Rattle.raster.proofs.rows.put.Lts as lts
-use Rattle.screen.proofs.plane.write_pixel.Reads as write-pixel-reads
 
 enum-told : tie.Need-enum-told
 enum-told c = search needs
 
--- src/rows.rt:29:19
 enum-known-shade : tie.Need-enum-known-shade
 enum-known-shade c = search needs
 
--- src/rows.rt:29:28
 write-pixel-requires : tie.Need-write-pixel-requires
 write-pixel-requires c κs = search needs
 
--- src/rows.rt:22:1
 returns : tie.Need-returns
 unfolding inked
 returns c = range-skip 0 _ _ _ _ (λ j p q. rw (c .enum-told .given .1))
 
--- src/rows.rt:22:1
 same-length : tie.Need-same-length
 same-length c = search needs
 
--- src/rows.rt:22:1
 returns-2 : tie.Need-returns-2
 unfolding inked
 returns-2 c =
