@@ -1,0 +1,3 @@
+pub mod Face
+pub mod Pixel
+pub mod Row

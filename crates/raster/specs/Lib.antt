@@ -1,0 +1,4 @@
+pub mod Ink
+pub mod Raster
+pub mod Triangles
+pub mod Steps
