@@ -1,3 +1,4 @@
 pub mod Dither
 pub mod Plane
 pub mod Depths
+pub mod Draw

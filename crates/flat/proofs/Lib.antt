@@ -1,0 +1,9 @@
+pub mod Signs
+pub mod Convex
+pub mod Fits
+pub mod Side
+pub mod Cut
+pub mod Cell
+pub mod Turn
+pub mod Placed
+pub mod Cases
