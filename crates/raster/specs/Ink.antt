@@ -1,0 +1,110 @@
+-- What a float triangle leaves at a pixel that it shows at: a colour, or nothing. Document 000, from the store of the depth to `write_pixel`. Each operation rounds once, in the source's order. Definitions only.
+use mathlib.Core.Bool.{Bool, cond}
+use mathlib.Core.List.{List}
+use Prim.Native.Nat.{ℕ, _+_, _*_, _/_, _%_, _≤_}
+use lib.Dec.{eqb}
+use lib.IntN.{pos}
+use lib.ListN.{getD}
+use lib.Ieee.{Float, binary32, ofBits, ofInt}
+use Rattle.ieee.specs.Range.{clampOf, tinyOf}
+use Rattle.ieee.specs.Casts as casts
+use Rattle.vector.specs.Three.{_⊕_, _·_, _⊘_, at}
+use Rattle.clip.specs.declared.vertex.ClipVertex.{ClipVertex}
+use Rattle.screen.specs.declared.plane.Rgba.{Rgba}
+use Rattle.raster.specs.declared.face.Corners.{Corners}
+use Rattle.raster.specs.declared.ink.Color.{Color}
+use Rattle.raster.specs.declared.ink.Colors.{Colors}
+use Rattle.raster.specs.declared.ink.Sampler.{Sampler}
+use Rattle.raster.specs.declared.ink.Ink.{Ink}
+use Rattle.raster.specs.declared.ink.Ink.the-variants.{Flat, Blend, Plain, Tinted, Mixed}
+use Rattle.raster.specs.declared.ink.Shade.{Shade}
+use Rattle.raster.specs.declared.ink.Shade.the-variants.{Blank, Of}
+use Rattle.raster.specs.Face.{corner}
+use Rattle.raster.specs.Pixel.{mixOf}
+
+-- `(value.clamp(0.0, 1.0) * 255.0 + 0.5) as u8`
+unfoldable pub byteOf : Float → ℕ
+byteOf v = casts.unitByteOf (clampOf v)
+
+-- `rgba`
+unfoldable pub rgbaOf : Color → Rgba
+rgbaOf c = record { r = byteOf (c .r); g = byteOf (c .g); b = byteOf (c .b); a = byteOf (c .a) }
+
+-- `tri[i].color[channel]` and `tri[i].uv[c]`, for the three corners
+abbrev pub channelOf : List ClipVertex → ℕ → Corners
+channelOf tri k = record { c0 = at (corner tri 0 .color) k; c1 = at (corner tri 1 .color) k; c2 = at (corner tri 2 .color) k }
+
+abbrev pub uvOf : List ClipVertex → ℕ → Corners
+uvOf tri k = record { c0 = at (corner tri 0 .uv) k; c1 = at (corner tri 1 .uv) k; c2 = at (corner tri 2 .uv) k }
+
+unfoldable pub colorsOf : List ClipVertex → Colors
+colorsOf tri = record { r = channelOf tri 0; g = channelOf tri 1; b = channelOf tri 2; a = channelOf tri 3 }
+
+unfoldable pub samplerOf : List ClipVertex → ℕ → ℕ → Sampler
+samplerOf tri width height = record { width = width; height = height; u = uvOf tri 0; v = uvOf tri 1 }
+
+-- ---- `rasterize_transformed_triangle`: a colour divided by w. b is `bary`, i is `inv_w`, d the `denominator`
+-- `(bary[0] * tri[0].color[channel] * inv_w[0] + ..) / denominator`
+unfoldable pub dividedOf : Corners → Corners → Float → Corners → Float
+dividedOf b i d v = (b .c0 · v .c0 · i .c0 ⊕ b .c1 · v .c1 · i .c1 ⊕ b .c2 · v .c2 · i .c2) ⊘ d
+
+-- `std::array::from_fn(|channel| ..)`
+unfoldable pub blendOf : Colors → Corners → Corners → Float → Color
+blendOf c b i d = record { r = dividedOf b i d (c .r); g = dividedOf b i d (c .g); b = dividedOf b i d (c .b); a = dividedOf b i d (c .a) }
+
+-- ---- `rasterize_textured_triangle`: plain interpolation
+-- "width, height 1..1024, then exactly (width × height + 1) / 2 words": a texture of these sides in n words
+pub record Texture (width height n : ℕ) : Type 0 where
+  pub some-width : 1 ≤ width
+  pub some-height : 1 ≤ height
+  pub top-width : width ≤ 1024
+  pub top-height : height ≤ 1024
+  pub in-words : (width * height + 1) / 2 ≤ n
+
+-- `ty * width + tx`: the texel's number, of `uv`
+unfoldable pub placeOf : Sampler → Corners → ℕ
+placeOf s b = casts.texelOf (mixOf b (s .v)) (s .height) * s .width + casts.texelOf (mixOf b (s .u)) (s .width)
+
+-- "High half first": the sixteen bits of texel n, out of the words as received
+unfoldable pub halfOf : List ℕ → ℕ → ℕ
+halfOf texels n = cond (eqb (n % 2) 0) (getD texels (n / 2) 0 / 65536) (getD texels (n / 2) 0 % 65536)
+
+-- "nibbles R, G, B, A times 17"
+unfoldable pub nibblesOf : ℕ → Rgba
+nibblesOf t = record { r = t / 4096 % 16 * 17; g = t / 256 % 16 * 17; b = t / 16 % 16 * 17; a = t % 16 * 17 }
+
+-- `data[ti + ch]`
+unfoldable pub texelOf : List ℕ → Sampler → Corners → Rgba
+texelOf texels s b = nibblesOf (halfOf texels (placeOf s b))
+
+-- `data[ti + ch] as f32 / 255.0`
+abbrev pub unitOf : ℕ → Float
+unitOf t = ofInt binary32 (pos t) ⊘ ofBits binary32 0x437f_0000
+
+-- `t`
+unfoldable pub plainOf : Rgba → Color
+plainOf t = record { r = unitOf (t .r); g = unitOf (t .g); b = unitOf (t .b); a = unitOf (t .a) }
+
+-- `t * c[ch]`
+unfoldable pub tintedOf : Color → Color → Color
+tintedOf t c = record { r = t .r · c .r; g = t .g · c .g; b = t .b · c .b; a = t .a · c .a }
+
+-- `c` of modes other than 1: interpolated, and each channel clamped
+unfoldable pub mixedOf : Colors → Corners → Color
+mixedOf c b = record { r = clampOf (mixOf b (c .r)); g = clampOf (mixOf b (c .g)); b = clampOf (mixOf b (c .b)); a = clampOf (mixOf b (c .a)) }
+
+-- ---- what an ink gives: "where the denominator is at most 2^-23 in size, the depth is stored and the pixel is not" (the first `cond`)
+unfoldable pub shadeOf : List ℕ → Ink → Corners → Corners → Shade
+shadeOf texels (Flat c) b i = Of c
+shadeOf texels (Blend c) b i = cond (tinyOf (mixOf b i)) Blank (Of (rgbaOf (blendOf c b i (mixOf b i))))
+shadeOf texels (Plain s) b i = Of (rgbaOf (plainOf (texelOf texels s b)))
+shadeOf texels (Tinted s c) b i = Of (rgbaOf (tintedOf (plainOf (texelOf texels s b)) c))
+shadeOf texels (Mixed s c) b i = Of (rgbaOf (tintedOf (plainOf (texelOf texels s b)) (mixedOf c b)))
+
+-- an ink's texture, if it has one, is in these words
+abbrev pub Stored : Ink → ℕ → Type 0
+Stored (Flat c) n = Unit
+Stored (Blend c) n = Unit
+Stored (Plain s) n = Texture (s .width) (s .height) n
+Stored (Tinted s c) n = Texture (s .width) (s .height) n
+Stored (Mixed s c) n = Texture (s .width) (s .height) n

@@ -1,0 +1,243 @@
+// What a triangle is painted with, and the colour that it gives at a pixel.
+use crate::face::Corners;
+use clip::vertex::ClipVertex;
+use screen::plane::Rgba;
+ghost use mathlib.Core.Path.{_≡_};
+ghost use Prim.Native.Nat.{_*_, _<_};
+ghost use lib.ListN.{length};
+ghost use Rattle.raster.specs.Ink.{byteOf, rgbaOf, dividedOf, blendOf, Texture, placeOf, halfOf, nibblesOf, texelOf, unitOf, plainOf, tintedOf, mixedOf, Stored, shadeOf, colorsOf, samplerOf};
+
+// An interpolated colour, or a flat one.
+pub struct Color {
+    pub r: f32,
+    pub g: f32,
+    pub b: f32,
+    pub a: f32,
+}
+
+// The corners' colours, channel by channel.
+pub struct Colors {
+    pub r: Corners,
+    pub g: Corners,
+    pub b: Corners,
+    pub a: Corners,
+}
+
+// A texture's sides, and where the corners stand in it.
+pub struct Sampler {
+    pub width: u32,
+    pub height: u32,
+    pub u: Corners,
+    pub v: Corners,
+}
+
+// The words of a texture go beside it.
+pub enum Ink {
+    Flat(Rgba),
+    // divided by w
+    Blend(Colors),
+    // modes 0, 1 and 2 of a texture
+    Plain(Sampler),
+    Tinted(Sampler, Color),
+    Mixed(Sampler, Colors),
+}
+
+// What an ink gives at a pixel.
+pub enum Shade {
+    Blank,
+    Of(Rgba),
+}
+
+fn byte_of(v: f32) -> u8
+    ensures { λ r. ⌜ r ≡ byteOf v ⌝ }
+{
+    ieee::cast::unit_byte(ieee::range::clamp01(v))
+}
+
+pub fn rgba_of(c: Color) -> Rgba
+    ensures { λ r. ⌜ r ≡ rgbaOf c ⌝ }
+{
+    Rgba {
+        r: byte_of(c.r),
+        g: byte_of(c.g),
+        b: byte_of(c.b),
+        a: byte_of(c.a),
+    }
+}
+
+// A channel v, interpolated and divided: `bary` and `inv_w` are b and i, the denominator is d.
+fn divided(b: Corners, i: Corners, d: f32, v: Corners) -> f32
+    ensures { λ r. ⌜ r ≡ dividedOf b i d v ⌝ }
+{
+    (b.c0 * v.c0 * i.c0 + b.c1 * v.c1 * i.c1 + b.c2 * v.c2 * i.c2) / d
+}
+
+fn blend(c: Colors, b: Corners, i: Corners, d: f32) -> Color
+    ensures { λ r. ⌜ r ≡ blendOf c b i d ⌝ }
+{
+    Color {
+        r: divided(b, i, d, c.r),
+        g: divided(b, i, d, c.g),
+        b: divided(b, i, d, c.b),
+        a: divided(b, i, d, c.a),
+    }
+}
+
+fn blended(texels: &[u32], c: Colors, b: Corners, i: Corners) -> Shade
+    ensures { λ r. ⌜ r ≡ shadeOf (now (texels .entry)) (Ink.Blend c) b i ⌝ }
+{
+    let denominator = crate::face::mix(b, i);
+    if ieee::range::tiny(denominator) {
+        return Shade::Blank;
+    }
+    Shade::Of(rgba_of(blend(c, b, i, denominator)))
+}
+
+// A texel's number, row by row.
+fn place(s: Sampler, b: Corners, n: usize) -> usize
+    requires { ⌜ Texture (s .width) (s .height) n ⌝ }
+    ensures { λ r. ⌜ (r ≡ placeOf s b) × (r < s .width * s .height) ⌝ }
+{
+    let u = crate::face::mix(b, s.u);
+    let v = crate::face::mix(b, s.v);
+    ieee::cast::texel(v, s.height) * (s.width as usize) + ieee::cast::texel(u, s.width)
+}
+
+// Its sixteen bits.
+fn half(texels: &[u32], width: u32, height: u32, n: usize) -> u32
+    requires { ⌜ Texture width height (length (now texels)) ⌝ }
+    requires { ⌜ n < width * height ⌝ }
+    ensures { λ r. ⌜ (r ≡ halfOf (now (texels .entry)) n) × (r < 65536) ⌝ }
+{
+    let k = n / 2;
+    if n % 2 == 0 {
+        return texels[k] / 65536;
+    }
+    texels[k] % 65536
+}
+
+fn nibbles(texel: u32) -> Rgba
+    requires { ⌜ texel < 65536 ⌝ }
+    ensures { λ r. ⌜ r ≡ nibblesOf texel ⌝ }
+{
+    Rgba {
+        r: (texel / 4096 % 16 * 17) as u8,
+        g: (texel / 256 % 16 * 17) as u8,
+        b: (texel / 16 % 16 * 17) as u8,
+        a: (texel % 16 * 17) as u8,
+    }
+}
+
+fn texel(texels: &[u32], s: Sampler, b: Corners) -> Rgba
+    requires { ⌜ Texture (s .width) (s .height) (length (now texels)) ⌝ }
+    ensures { λ r. ⌜ r ≡ texelOf (now (texels .entry)) s b ⌝ }
+{
+    let n = place(s, b, texels.len());
+    nibbles(half(texels, s.width, s.height, n))
+}
+
+fn unit(t: u8) -> f32
+    ensures { λ r. ⌜ r ≡ unitOf t ⌝ }
+{
+    ieee::number::byte_float(t) / 255.0
+}
+
+fn plain(t: Rgba) -> Color
+    ensures { λ r. ⌜ r ≡ plainOf t ⌝ }
+{
+    Color {
+        r: unit(t.r),
+        g: unit(t.g),
+        b: unit(t.b),
+        a: unit(t.a),
+    }
+}
+
+fn tinted(t: Color, c: Color) -> Color
+    ensures { λ r. ⌜ r ≡ tintedOf t c ⌝ }
+{
+    Color {
+        r: t.r * c.r,
+        g: t.g * c.g,
+        b: t.b * c.b,
+        a: t.a * c.a,
+    }
+}
+
+fn mixed(c: Colors, b: Corners) -> Color
+    ensures { λ r. ⌜ r ≡ mixedOf c b ⌝ }
+{
+    Color {
+        r: ieee::range::clamp01(crate::face::mix(b, c.r)),
+        g: ieee::range::clamp01(crate::face::mix(b, c.g)),
+        b: ieee::range::clamp01(crate::face::mix(b, c.b)),
+        a: ieee::range::clamp01(crate::face::mix(b, c.a)),
+    }
+}
+
+// At the pixel whose `bary` is b, in a triangle whose `inv_w` is i.
+pub fn shade_at(texels: &[u32], ink: Ink, b: Corners, i: Corners) -> Shade
+    requires { ⌜ Stored ink (length (now texels)) ⌝ }
+    ensures { λ r. ⌜ r ≡ shadeOf (now (texels .entry)) ink b i ⌝ }
+{
+    match ink {
+        Ink::Flat(c) => Shade::Of(c),
+        Ink::Blend(c) => blended(texels, c, b, i),
+        Ink::Plain(s) => Shade::Of(rgba_of(plain(texel(texels, s, b)))),
+        Ink::Tinted(s, c) => Shade::Of(rgba_of(tinted(plain(texel(texels, s, b)), c))),
+        Ink::Mixed(s, c) => Shade::Of(rgba_of(tinted(plain(texel(texels, s, b)), mixed(c, b)))),
+    }
+}
+
+// `tri[0].color[channel]` and the other corners'.
+pub fn colors_of(tri: [ClipVertex; 3]) -> Colors
+    ensures { λ r. ⌜ r ≡ colorsOf tri ⌝ }
+{
+    let v0 = tri[0];
+    let v1 = tri[1];
+    let v2 = tri[2];
+    Colors {
+        r: Corners {
+            c0: v0.color[0],
+            c1: v1.color[0],
+            c2: v2.color[0],
+        },
+        g: Corners {
+            c0: v0.color[1],
+            c1: v1.color[1],
+            c2: v2.color[1],
+        },
+        b: Corners {
+            c0: v0.color[2],
+            c1: v1.color[2],
+            c2: v2.color[2],
+        },
+        a: Corners {
+            c0: v0.color[3],
+            c1: v1.color[3],
+            c2: v2.color[3],
+        },
+    }
+}
+
+pub fn sampler_of(tri: [ClipVertex; 3], width: u32, height: u32) -> Sampler
+    ensures { λ r. ⌜ r ≡ samplerOf tri width height ⌝ }
+{
+    let v0 = tri[0];
+    let v1 = tri[1];
+    let v2 = tri[2];
+    Sampler {
+        width,
+        height,
+        u: Corners {
+            c0: v0.uv[0],
+            c1: v1.uv[0],
+            c2: v2.uv[0],
+        },
+        v: Corners {
+            c0: v0.uv[1],
+            c1: v1.uv[1],
+            c2: v2.uv[1],
+        },
+    }
+}
