@@ -466,9 +466,9 @@ add sub mul div lt le eq: two words -> one          texel: u and the side -> one
 from_int: an unsigned number -> one                 every other scalar function: one word -> one
 transform: matrix 16, position 4 -> 4               multiply: 16, 16 -> 16
 inverse: 16 -> 9, row by row, or none               apply: 9, 3 -> 3
-normalize: 3 -> 3                                   distance: position 4, plane -> 1
+normalize: 3 -> 3                                   distance: plane, position 4 -> 1
 shade: albedo 4, position 3, normal 3, 8 lights of 16 (switch, ambient, diffuse, specular, emission, position) -> 4
-clip: plane, n, n vertices of 16 (position 4, view 3, normal 3, color 4, uv 2) -> count, vertices
+clip: plane, vertices of 16 (position 4, view 3, normal 3, color 4, uv 2) -> count, vertices
 transformed: 3 vertices, flat 0/1, flat color 4, x, y, old depth -> none, or the depth, or the depth and 4 bytes
 textured: 3 vertices, mode, flat color 4, width, height, x, y, old depth, the texture's words -> the same
 """
@@ -507,7 +507,7 @@ def shade(w):
 
 
 def clip(w):
-    out = clip_polygon(vertices_of(w[2:]), w[0])
+    out = clip_polygon(vertices_of(w[1:]), w[0])
     return [len(out)] + words_of(out)
 
 
@@ -538,7 +538,7 @@ GROUPS = {
     "apply": lambda w: apply_normal_matrix(parts(w, [3, 3, 3]), w[9:12]),
     "normalize": normalize,
     "shade": shade,
-    "distance": lambda w: [clip_distance(w[:4], w[4])],
+    "distance": lambda w: [clip_distance(w[1:5], w[0])],
     "clip": clip,
     "transformed": transformed,
     "textured": textured,

@@ -2,6 +2,7 @@
 
 pub use vpu_original as original;
 
+pub mod calls;
 pub mod cuts;
 pub mod damage;
 pub mod digests;
@@ -11,4 +12,6 @@ pub mod profiles;
 pub mod random;
 pub mod steps;
 pub mod streams;
+pub mod traps;
+pub mod vertices;
 pub mod words;

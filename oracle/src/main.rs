@@ -7,6 +7,7 @@ mod screen;
 mod share;
 mod single;
 mod sums;
+mod vertex;
 
 use arguments::Arguments;
 
@@ -19,7 +20,10 @@ const USAGE: &str = "usage:
   oracle share --profile P|all [--seed S] [--count N]
   oracle sums
   oracle screen-list
-  oracle screen-stdin";
+  oracle screen-stdin
+  oracle vertex-lines FUNCTION [--seed S] [--count N]
+  oracle vertex-list
+  oracle vertex-stdin";
 
 fn main() {
     let arguments: Vec<String> = std::env::args().skip(1).collect();
@@ -42,6 +46,9 @@ fn dispatch(arguments: &[String]) -> Result<(), String> {
         "sums" => sums::sums(&rest),
         "screen-list" => screen::list(&rest),
         "screen-stdin" => screen::stdin(&rest),
+        "vertex-lines" => vertex::lines(&rest),
+        "vertex-list" => vertex::list(&rest),
+        "vertex-stdin" => vertex::stdin(&rest),
         _ => Err(format!("no subcommand {subcommand:?}\n{USAGE}")),
     }
 }

@@ -1,7 +1,5 @@
 //! Words as files have them (little-endian) and as lines have them (hexadecimal).
 
-use crate::digests::bits;
-
 /// A stream file: one call after another, each a count and then that many words.
 pub fn encode_calls(calls: &[Vec<u32>]) -> Vec<u8> {
     let mut bytes = Vec::new();
@@ -45,9 +43,4 @@ pub fn parse_line(line: &str) -> Result<Vec<u32>, String> {
 pub fn word_line(words: &[u32]) -> String {
     let texts: Vec<String> = words.iter().map(|word| format!("{word:08x}")).collect();
     texts.join(" ")
-}
-
-pub fn float_line(floats: &[f32]) -> String {
-    let words: Vec<u32> = floats.iter().map(|float| bits(*float)).collect();
-    word_line(&words)
 }
