@@ -11,13 +11,8 @@ pub fn fnv(bytes: impl Iterator<Item = u8>) -> u64 {
     bytes.fold(FNV_OFFSET, |digest, byte| (digest ^ byte as u64).wrapping_mul(FNV_PRIME))
 }
 
-<<<<<<< HEAD
-/// The bits of a float, those of `ONE_NAN` for every NaN. The test is on the bits: a compiler may take a choice between two
-/// NaNs, which `is_nan` would make it, for no choice.
-=======
 /// The bits of a float, those of `ONE_NAN` for every NaN. The test is on the bits: after `is_nan` the compiler may take
 /// the choice between two NaNs for no choice.
->>>>>>> 53556427e865e5d4f61176ba30d1a2a0579bcdbc
 pub fn bits(float: f32) -> u32 {
     let bits = float.to_bits();
     if bits & 0x7fff_ffff > 0x7f80_0000 {
