@@ -10,6 +10,7 @@ pub mod floats;
 pub mod maker;
 pub mod profiles;
 pub mod random;
+pub mod shapes;
 pub mod steps;
 pub mod streams;
 pub mod traps;

@@ -7,6 +7,7 @@ mod screen;
 mod share;
 mod single;
 mod sums;
+mod triangle;
 mod vertex;
 
 use arguments::Arguments;
@@ -23,7 +24,9 @@ const USAGE: &str = "usage:
   oracle screen-stdin
   oracle vertex-lines FUNCTION [--seed S] [--count N]
   oracle vertex-list
-  oracle vertex-stdin";
+  oracle vertex-stdin
+  oracle triangle-list
+  oracle triangle-stdin";
 
 fn main() {
     let arguments: Vec<String> = std::env::args().skip(1).collect();
@@ -49,6 +52,8 @@ fn dispatch(arguments: &[String]) -> Result<(), String> {
         "vertex-lines" => vertex::lines(&rest),
         "vertex-list" => vertex::list(&rest),
         "vertex-stdin" => vertex::stdin(&rest),
+        "triangle-list" => triangle::list(&rest),
+        "triangle-stdin" => triangle::stdin(&rest),
         _ => Err(format!("no subcommand {subcommand:?}\n{USAGE}")),
     }
 }

@@ -1,7 +1,7 @@
 // What happens to a corner, for C, so that a test can run it on any input: each export reads one
 // flat record and calls one function of `vector`, `light` or `clip`.
 mod polygon;
-mod record;
+pub mod record;
 
 use vector::matrix::Matrix;
 use vector::normal::Inverse;

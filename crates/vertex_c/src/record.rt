@@ -1,8 +1,30 @@
 // Pieces of a flat record, in the layout of the oracle's lines.
 use clip::vertex::ClipVertex;
 use light::Light;
-ghost use Prim.Native.Nat.{_+_, _≤_};
+ghost use Prim.Native.Nat.{_+_, _<_, _≤_};
 ghost use lib.ListN.{length};
+
+fn word(a: u8, b: u8, c: u8, d: u8) -> u32 {
+    a as u32 + b as u32 * 256 + c as u32 * 65536 + d as u32 * 16777216
+}
+
+// Word k of a record of bytes, the lowest first, and 0 past its end.
+pub fn word_at(record: &[u8], k: usize) -> u32
+    requires { ⌜ k < 138 ⌝ }
+{
+    let i = k * 4;
+    if i + 4 <= record.len() {
+        return word(record[i], record[i + 1], record[i + 2], record[i + 3]);
+    }
+    0
+}
+
+// Its float k.
+pub fn float_at(record: &[u8], k: usize) -> f32
+    requires { ⌜ k < 138 ⌝ }
+{
+    ieee::bits::float_of(word_at(record, k))
+}
 
 fn two(x: &[f32], k: usize) -> [f32; 2]
     requires { ⌜ k + 2 ≤ length (now x) ⌝ }

@@ -6,27 +6,12 @@ use libc::STDOUT_FILENO;
 ghost use Prim.Native.Nat.{_<_, _≤_};
 ghost use lib.ListN.{length};
 
-fn word(a: u8, b: u8, c: u8, d: u8) -> u32 {
-    a as u32 + b as u32 * 256 + c as u32 * 65536 + d as u32 * 16777216
-}
-
-// Float k of a record, and 0.0 past its end.
-fn float_at(record: &[u8], k: usize) -> f32
-    requires { ⌜ k < 138 ⌝ }
-{
-    let i = k * 4;
-    if i + 4 <= record.len() {
-        return ieee::bits::float_of(word(record[i], record[i + 1], record[i + 2], record[i + 3]));
-    }
-    0.0
-}
-
 // The longest record has 138 floats.
 fn floats_of(record: &[u8]) -> [f32; 138] {
     let mut x = [0.0; 138];
     let mut k: usize = 0;
     while k < 138 {
-        x[k] = float_at(record, k);
+        x[k] = vertex_c::record::float_at(record, k);
         k += 1;
     }
     x
