@@ -311,7 +311,14 @@ impl Triangle {
             }
             (Self::Floats(shape), Kind::Textured(mode)) => {
                 let Texture { width, height, texels, .. } = texture;
-                vpu.call_rasterize_textured_triangle(&shape.corners, *width, *height, texels, mode, shape.color);
+                vpu.call_rasterize_textured_triangle(
+                    &shape.corners,
+                    *width,
+                    *height,
+                    texels,
+                    mode,
+                    shape.color,
+                );
             }
             (Self::Floats(shape), _) => {
                 let color = (kind == Kind::Plain).then_some(shape.color);

@@ -1,6 +1,6 @@
-//! Draws triangles with the proved functions and with the original, in one process, and compares plane and depths, every
-//! NaN as one value. `triangles [--count N] [--seed S] [--only KIND]`, or `triangles time [--only KIND]`; linked with
-//! the archive of the crate `triangle_c`.
+//! Draws triangles with the proved functions and with the original, in one process, and compares plane and depths,
+//! every NaN as one value. `triangles [--count N] [--seed S] [--only KIND]`, or `triangles time [--only KIND]`; linked
+//! with the archive of the crate `triangle_c`.
 
 #[allow(dead_code)]
 mod arguments;
@@ -92,7 +92,9 @@ impl Port {
         let (plane, depth) = (self.plane.as_mut_ptr(), self.depth_f32.as_mut_ptr());
         let corners = shape.corners.as_ptr().cast();
         let length = if flat { 4 } else { 0 };
-        unsafe { triangle_transformed(plane, 4 * PIXELS, depth, PIXELS, corners, 48, shape.color.as_ptr(), length) }
+        unsafe {
+            triangle_transformed(plane, 4 * PIXELS, depth, PIXELS, corners, 48, shape.color.as_ptr(), length)
+        }
     }
 
     fn draw_textured(&mut self, shape: &Shape, texture: &Texture, mode: u32) {
@@ -148,7 +150,8 @@ impl Sides {
 
     fn same(&self, first: usize, past: usize) -> bool {
         let (cells, bytes) = (first * ROW..past * ROW, 4 * first * ROW..4 * past * ROW);
-        let mut floats = self.port.depth_f32[cells.clone()].iter().zip(&self.original.depth_f32()[cells.clone()]);
+        let mut floats =
+            self.port.depth_f32[cells.clone()].iter().zip(&self.original.depth_f32()[cells.clone()]);
         self.port.plane[bytes.clone()] == self.original.plane()[bytes]
             && self.port.depth[cells.clone()] == self.original.depth()[cells]
             && floats.all(|(port, original)| bits(*port) == bits(*original))
@@ -179,7 +182,8 @@ impl Seen {
         self.differences += 1;
         if self.differences == 1 {
             let (width, height) = (texture.width, texture.height);
-            self.first = format!("  triangle {index}, texture {width} by {height}\n  {}\n", word_line(&triangle.words()));
+            let words = word_line(&triangle.words());
+            self.first = format!("  triangle {index}, texture {width} by {height}\n  {words}\n");
         }
     }
 }
@@ -194,8 +198,8 @@ fn texture_for(textures: &[Texture], kind: Kind, index: u64) -> &Texture {
     }
 }
 
-/// After each triangle the rows that it can touch are compared, which finds the triangle that differs; at the end of each
-/// batch everything is, which finds what was written anywhere else. After a difference both sides are cleared.
+/// After each triangle the rows that it can touch are compared, which finds the triangle that differs; at the end of
+/// each batch everything is, which finds what was written anywhere else. After a difference both sides are cleared.
 fn compare(kind: Kind, seed: u64, count: u64, textures: &[Texture]) -> Seen {
     let mut sides = Sides::new();
     let mut seen = Seen::default();
@@ -234,8 +238,8 @@ fn run_compare(arguments: &Arguments) -> Result<bool, String> {
     let mut agreed = true;
     for (name, kind) in chosen(arguments) {
         let Seen { changed, refused, differences, first } = compare(kind, seed, count, &textures);
-        println!("{name:16} {count:8} triangles, {changed:7} changed a pixel, {refused:6} refused, {differences} differences");
-        print!("{first}");
+        print!("{name:16} {count:8} triangles, {changed:7} changed a pixel, {refused:6} refused, ");
+        print!("{differences} differences\n{first}");
         agreed &= differences == 0;
         if kind != Kind::Beyond && changed * 2 < count {
             println!("  fewer than half changed a pixel");
@@ -263,7 +267,9 @@ fn timed(kind: Kind, (width, height): (i32, i32), index: u64) -> Triangle {
     if kind == Kind::Flat {
         let depth = |k: i32| (k - 10 * nearer) as u32;
         let [a, b, c] = corners.map(|corner| corner.map(|value| value as u32));
-        return Triangle::Words([a[0], a[1], depth(0), b[0], b[1], depth(1), c[0], c[1], depth(2), random.word(), 200]);
+        let rgb = random.word();
+        let words = [a[0], a[1], depth(0), b[0], b[1], depth(1), c[0], c[1], depth(2), rgb, 200];
+        return Triangle::Words(words);
     }
     let corners = corners.map(|[x, y]| {
         let (w, mut floats) = (random.float(0.5, 2.0), random.floats::<16>(0.0, 1.0));
@@ -301,7 +307,8 @@ fn run_time(arguments: &Arguments) -> Result<bool, String> {
     println!("nanoseconds per triangle, port and original, best of {RUNS} runs of {TIMED}");
     for (name, kind) in chosen(arguments).filter(|(_, kind)| *kind != Kind::Beyond) {
         for (width, height) in BOXES {
-            let triangles: Vec<Triangle> = (0..TIMED).map(|index| timed(kind, (width, height), index)).collect();
+            let triangles: Vec<Triangle> =
+                (0..TIMED).map(|index| timed(kind, (width, height), index)).collect();
             let mut best = [i64::MAX; 2];
             for _ in 0..RUNS {
                 let spent = time_once(&mut sides, kind, &triangles, &texture);
