@@ -131,8 +131,20 @@ fn show(h: u64) {
     io::print_hex(STDOUT_FILENO, h, 16);
 }
 
-fn line(name: &[u8], plane: &[u8], depth: &[i32], depth_f32: &[f32]) {
-    io::write_all(STDOUT_FILENO, name);
+fn name(kind: u32) {
+    match kind {
+        0 => io::write_all(STDOUT_FILENO, b"flat"),
+        1 => io::write_all(STDOUT_FILENO, b"transformed-flat"),
+        2 => io::write_all(STDOUT_FILENO, b"transformed"),
+        3 => io::write_all(STDOUT_FILENO, b"textured-0"),
+        4 => io::write_all(STDOUT_FILENO, b"textured-1"),
+        _ => io::write_all(STDOUT_FILENO, b"textured-2"),
+    }
+    ;
+}
+
+fn line(kind: u32, plane: &[u8], depth: &[i32], depth_f32: &[f32]) {
+    name(kind);
     show(digest::bytes(digest::START, plane));
     show(digest::ints(digest::START, depth));
     show(digest::floats(digest::START, depth_f32));
@@ -141,7 +153,7 @@ fn line(name: &[u8], plane: &[u8], depth: &[i32], depth_f32: &[f32]) {
 
 // After a triangle: how many are left of its line. The last of a line has it printed.
 fn left_after(
-    name: &[u8],
+    kind: u32,
     left: usize,
     plane: &mut [u8],
     depth: &mut [i32],
@@ -150,14 +162,13 @@ fn left_after(
     if left > 1 {
         return left - 1;
     }
-    line(name, plane, depth, depth_f32);
+    line(kind, plane, depth, depth_f32);
     clear(plane, depth, depth_f32);
     LINE
 }
 
 // All the whole records of a section.
 fn lines(
-    name: &[u8],
     kind: u32,
     size: usize,
     plane: &mut [u8],
@@ -172,14 +183,13 @@ fn lines(
     let mut rest = section;
     while size <= rest.len() {
         draw(kind, plane, depth, depth_f32, texels, rest);
-        left = left_after(name, left, plane, depth, depth_f32);
+        left = left_after(kind, left, plane, depth, depth_f32);
         rest = &rest[size..];
     }
 }
 
 // An array by its reference has its length by its type.
 fn shape_lines(
-    name: &[u8],
     kind: u32,
     plane: &mut [u8],
     depth: &mut [i32],
@@ -187,7 +197,7 @@ fn shape_lines(
     texels: &[u32; 32],
     shapes: &[u8; 416000],
 ) {
-    lines(name, kind, 208, plane, depth, depth_f32, texels, shapes);
+    lines(kind, 208, plane, depth, depth_f32, texels, shapes);
 }
 
 fn main() {
@@ -202,59 +212,10 @@ fn main() {
     io::read_full(STDIN_FILENO, &mut shapes);
     let texels = words_of(&texture);
     clear(&mut plane, &mut depth, &mut floats);
-    lines(
-        b"flat",
-        0,
-        44,
-        &mut plane,
-        &mut depth,
-        &mut floats,
-        &texels,
-        &flats,
-    );
-    shape_lines(
-        b"transformed-flat",
-        1,
-        &mut plane,
-        &mut depth,
-        &mut floats,
-        &texels,
-        &shapes,
-    );
-    shape_lines(
-        b"transformed",
-        2,
-        &mut plane,
-        &mut depth,
-        &mut floats,
-        &texels,
-        &shapes,
-    );
-    shape_lines(
-        b"textured-0",
-        3,
-        &mut plane,
-        &mut depth,
-        &mut floats,
-        &texels,
-        &shapes,
-    );
-    shape_lines(
-        b"textured-1",
-        4,
-        &mut plane,
-        &mut depth,
-        &mut floats,
-        &texels,
-        &shapes,
-    );
-    shape_lines(
-        b"textured-2",
-        5,
-        &mut plane,
-        &mut depth,
-        &mut floats,
-        &texels,
-        &shapes,
-    );
+    lines(0, 44, &mut plane, &mut depth, &mut floats, &texels, &flats);
+    shape_lines(1, &mut plane, &mut depth, &mut floats, &texels, &shapes);
+    shape_lines(2, &mut plane, &mut depth, &mut floats, &texels, &shapes);
+    shape_lines(3, &mut plane, &mut depth, &mut floats, &texels, &shapes);
+    shape_lines(4, &mut plane, &mut depth, &mut floats, &texels, &shapes);
+    shape_lines(5, &mut plane, &mut depth, &mut floats, &texels, &shapes);
 }

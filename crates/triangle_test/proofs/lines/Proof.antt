@@ -6,11 +6,11 @@ use Rattle.triangle_test.proofs.lines.Statement.{statement}
 use Rattle.triangle_test.proofs.lines.Tie as tie
 
 abbrev Inv-loop : tie.InvT-loop
-Inv-loop name kind size plane₀ depth₀ depth-f32₀ texels section left₀ rest₀ plane depth depth-f32 left rest =
+Inv-loop kind size plane₀ depth₀ depth-f32₀ texels section left₀ rest₀ plane depth depth-f32 left rest =
     (length plane ≡ length plane₀) × (length depth ≡ length depth₀) × (length depth-f32 ≡ length depth-f32₀)
 
 abbrev μ-loop : tie.MeasureT-loop
-μ-loop name kind size plane₀ depth₀ depth-f32₀ texels section left₀ rest₀ plane depth depth-f32 left rest = length rest
+μ-loop kind size plane₀ depth₀ depth-f32₀ texels section left₀ rest₀ plane depth depth-f32 left rest = length rest
 
 loop-holds : tie.Need-loop-holds Inv-loop μ-loop
 loop-holds c = search needs
