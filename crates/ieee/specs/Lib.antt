@@ -4,3 +4,4 @@ pub mod Range
 pub mod Casts
 pub mod Box
 pub mod Root
+pub mod Number

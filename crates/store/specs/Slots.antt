@@ -76,6 +76,10 @@ abbrev pub looked : Kind → List ℕ → Found → Option Whole
 looked k store (At s) = some (uploadAt k s store)
 looked k store Nothing = none
 
+-- what a store tells of a number
+abbrev pub lookIn : Kind → List Slot → List ℕ → ℕ → Option Whole
+lookIn k ss store n = looked k store (slotFor n ss)
+
 -- does the slot stay where an upload under n comes?
 abbrev pub stays : ℕ → Slot → Bool
 stays n s = s .held && not (eqb (s .number) n)

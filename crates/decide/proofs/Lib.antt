@@ -1,0 +1,4 @@
+pub mod Words
+pub mod Finite
+pub mod Always
+pub mod Traps

@@ -1,0 +1,296 @@
+// The float draws whole: 14, 16, 18, 19 and 1B. Each is decided first (`decide`) and painted after
+// (`stroke`).
+use clip::vertex::ClipVertex;
+use payload::and_then;
+use payload::at_most;
+use raster::ink::Color;
+use settings::Settings;
+use store::Found;
+use store::Kind;
+use store::SLOTS;
+use store::Slot;
+use stroke::Brush;
+use stroke::Texture;
+use verdict::Reason;
+use verdict::Verdict;
+ghost use mathlib.Core.Path.{_≡_};
+ghost use mathlib.Core.Bool.{true, false};
+ghost use Prim.Native.Nat.{_+_, _*_, _≤_};
+ghost use Rattle.verdict.specs.declared.Reason.the-variants.{NotHeld};
+ghost use Rattle.verdict.specs.declared.Verdict.the-variants.{Refused};
+ghost use lib.ListN.{length, drop, getD};
+ghost use Rattle.screen.specs.Plane.{planeBytes};
+ghost use Rattle.screen.specs.Draw.{pixels};
+ghost use Rattle.stroke.specs.Strokes.{sheet, strokesOn};
+ghost use Rattle.store.specs.Uploads.{isSome};
+ghost use Rattle.store.specs.Slots.{areaOf, sidesOk, slotsOk, lookIn};
+ghost use Rattle.store.specs.declared.Kind.the-variants as kind;
+ghost use Rattle.decide.specs.Corners.{wordsOf};
+ghost use Rattle.decide.specs.Verdicts.{transformedVerdict, checkedVerdict, texturedVerdict, triangleOf, recordsVerdict};
+ghost use Rattle.draw.specs.Draws.{flatColor, shadedBrush, transformedStrokes, texturedBrush, heldStrokes, texturedStrokes, recordsStrokes, modelVerdict, modelStrokes, hasIn};
+
+// Vertex 0's, before clipping.
+fn flat_color(tri: [ClipVertex; 3]) -> Color
+    ensures { λ r. ⌜ r ≡ flatColor tri ⌝ }
+{
+    let v = tri[0];
+    Color {
+        r: v.color[0],
+        g: v.color[1],
+        b: v.color[2],
+        a: v.color[3],
+    }
+}
+
+fn shaded_brush(shading_mode: u32, tri: [ClipVertex; 3]) -> Brush
+    ensures { λ r. ⌜ r ≡ shadedBrush «shading_mode» tri ⌝ }
+{
+    if shading_mode == 0 {
+        return Brush::Flat(flat_color(tri));
+    }
+    Brush::Blended
+}
+
+// 14, and with normals 16.
+pub fn draw_transformed_triangle(
+    plane: &mut [u8],
+    depth_f32: &mut [f32],
+    p: &[u32],
+    has_normal: bool,
+    s: Settings,
+) -> Verdict
+    requires { ⌜ length (now plane) ≡ planeBytes ⌝ }
+    requires { ⌜ length (now «depth_f32») ≡ pixels ⌝ }
+    requires { ⌜ length (now p) ≡ wordsOf «has_normal» false ⌝ }
+    ensures { λ r. ⌜ r ≡ transformedVerdict (now (p .entry)) «has_normal» (s .matrices) ⌝ }
+    ensures { λ _. ⌜ sheet (now (plane .exit)) (now («depth_f32» .exit)) ≡ strokesOn (transformedStrokes s (now (p .entry)) «has_normal») (sheet (now (plane .entry)) (now («depth_f32» .entry))) ⌝ }
+{
+    let m = s.matrices;
+    let checked = decide::verdicts::transformed(p, has_normal, &m);
+    let verdict = checked.verdict;
+    let corners = checked.corners;
+    match verdict {
+        Verdict::Done => {
+            let lights = s.lights;
+            let tri = decide::lit::transformed_lit(
+                corners,
+                has_normal,
+                s.lighting_enabled,
+                s.shading_mode,
+                lights,
+            );
+            stroke::paint(
+                plane,
+                depth_f32,
+                tri,
+                shaded_brush(s.shading_mode, tri),
+                &[],
+            );
+            verdict
+        }
+        Verdict::Refused {
+            reason: _,
+            index: _,
+        } => verdict,
+    }
+}
+
+fn textured_brush(slot: Slot, mode: u32, tri: [ClipVertex; 3]) -> Brush
+    ensures { λ r. ⌜ r ≡ texturedBrush (slot .width) (slot .height) mode tri ⌝ }
+{
+    Brush::Textured(Texture {
+        width: slot.width,
+        height: slot.height,
+        mode,
+        color: flat_color(tri),
+    })
+}
+
+// 18 and 19 whose mode is in range, with the texture in hand.
+fn draw_held(
+    plane: &mut [u8],
+    depth_f32: &mut [f32],
+    p: &[u32],
+    has_normal: bool,
+    s: Settings,
+    slot: Slot,
+    texels: &[u32],
+) -> Verdict
+    requires { ⌜ length (now plane) ≡ planeBytes ⌝ }
+    requires { ⌜ length (now «depth_f32») ≡ pixels ⌝ }
+    requires { ⌜ length (now p) ≡ wordsOf «has_normal» true ⌝ }
+    requires { ⌜ sidesOk kind.Texture (slot .width) (slot .height) ≡ true ⌝ }
+    requires { ⌜ length (now texels) ≡ areaOf kind.Texture (slot .width) (slot .height) ⌝ }
+    ensures { λ r. ⌜ r ≡ checkedVerdict (now (p .entry)) «has_normal» (s .matrices) ⌝ }
+    ensures { λ _. ⌜ sheet (now (plane .exit)) (now («depth_f32» .exit)) ≡ strokesOn (heldStrokes s (now (p .entry)) «has_normal» (slot .width) (slot .height) (now (texels .entry))) (sheet (now (plane .entry)) (now («depth_f32» .entry))) ⌝ }
+{
+    let m = s.matrices;
+    let checked = decide::verdicts::textured(p, has_normal, &m);
+    let verdict = checked.verdict;
+    let corners = checked.corners;
+    match verdict {
+        Verdict::Done => {
+            let mode = p[1];
+            let lights = s.lights;
+            let tri = decide::lit::textured_lit(
+                corners,
+                has_normal,
+                s.lighting_enabled,
+                mode,
+                lights,
+            );
+            stroke::paint(
+                plane,
+                depth_f32,
+                tri,
+                textured_brush(slot, mode, tri),
+                texels,
+            );
+            verdict
+        }
+        Verdict::Refused {
+            reason: _,
+            index: _,
+        } => verdict,
+    }
+}
+
+fn not_held() -> Verdict
+    ensures { λ r. ⌜ r ≡ Refused NotHeld 0 ⌝ }
+{
+    Verdict::Refused {
+        reason: Reason::NotHeld,
+        index: 0,
+    }
+}
+
+// 18, and with normals 19.
+pub fn draw_textured_triangle(
+    plane: &mut [u8],
+    depth_f32: &mut [f32],
+    p: &[u32],
+    has_normal: bool,
+    s: Settings,
+    slots: [Slot; SLOTS],
+    textures: &[u32],
+) -> Verdict
+    requires { ⌜ length (now plane) ≡ planeBytes ⌝ }
+    requires { ⌜ length (now «depth_f32») ≡ pixels ⌝ }
+    requires { ⌜ length (now p) ≡ wordsOf «has_normal» true ⌝ }
+    requires { ⌜ slotsOk kind.Texture (length (now textures)) 0 slots ≡ true ⌝ }
+    ensures { λ r. ⌜ r ≡ texturedVerdict (now (p .entry)) «has_normal» (isSome (lookIn kind.Texture slots (now (textures .entry)) (getD (now (p .entry)) 0 0))) (s .matrices) ⌝ }
+    ensures { λ _. ⌜ sheet (now (plane .exit)) (now («depth_f32» .exit)) ≡ strokesOn (texturedStrokes s (now (p .entry)) «has_normal» (lookIn kind.Texture slots (now (textures .entry)) (getD (now (p .entry)) 0 0))) (sheet (now (plane .entry)) (now («depth_f32» .entry))) ⌝ }
+{
+    let mode = at_most(p, 1, 2);
+    if let Verdict::Refused {
+        reason: _,
+        index: _,
+    } = mode {
+        return mode;
+    }
+    let found = store::slots::find(slots, p[0]);
+    let Found::At(slot) = found else {
+        return not_held();
+    };
+    let start = slot.start as usize;
+    let size = store::slots::area(Kind::Texture, slot.width, slot.height);
+    draw_held(
+        plane,
+        depth_f32,
+        p,
+        has_normal,
+        s,
+        slot,
+        &textures[start..start + size],
+    )
+}
+
+// A record of a model, with the mode between its number and its vertices.
+fn triangle_of(words: &[u32], start: usize, mode: u32) -> [u32; 29]
+    requires { ⌜ start + 28 ≤ length (now words) ⌝ }
+    ensures { λ r. ⌜ r ≡ triangleOf mode (drop start (now (words .entry))) ⌝ }
+{
+    let mut triangle = [0; 29];
+    triangle[0] = words[start];
+    triangle[1] = mode;
+    let mut k: usize = 0;
+    while k < 27 {
+        triangle[2 + k] = words[start + 1 + k];
+        k += 1;
+    }
+    triangle
+}
+
+// The first n records, each painted where it is not refused.
+fn draw_records(
+    plane: &mut [u8],
+    depth_f32: &mut [f32],
+    s: Settings,
+    slots: [Slot; SLOTS],
+    textures: &[u32],
+    mode: u32,
+    words: &[u32],
+    n: usize,
+) -> Verdict
+    requires { ⌜ length (now plane) ≡ planeBytes ⌝ }
+    requires { ⌜ length (now «depth_f32») ≡ pixels ⌝ }
+    requires { ⌜ slotsOk kind.Texture (length (now textures)) 0 slots ≡ true ⌝ }
+    requires { ⌜ length (now words) ≡ 28 * n ⌝ }
+    requires { ⌜ n ≤ 18724 ⌝ }
+    ensures { λ r. ⌜ r ≡ recordsVerdict mode (hasIn (lookIn kind.Texture slots (now (textures .entry)))) (s .matrices) n (now (words .entry)) ⌝ }
+    ensures { λ _. ⌜ sheet (now (plane .exit)) (now («depth_f32» .exit)) ≡ strokesOn (recordsStrokes s mode (lookIn kind.Texture slots (now (textures .entry))) n (now (words .entry))) (sheet (now (plane .entry)) (now («depth_f32» .entry))) ⌝ }
+{
+    let mut verdict = Verdict::Done;
+    let mut k: usize = 0;
+    while k < n {
+        let triangle = triangle_of(words, 28 * k, mode);
+        let one = draw_textured_triangle(plane, depth_f32, &triangle, true, s, slots, textures);
+        verdict = and_then(verdict, one);
+        k += 1;
+    }
+    verdict
+}
+
+// 1B. The first refused record gives the draw's verdict.
+pub fn draw_model(
+    plane: &mut [u8],
+    depth_f32: &mut [f32],
+    p: &[u32],
+    s: Settings,
+    slots: [Slot; SLOTS],
+    textures: &[u32],
+    model_slots: [Slot; SLOTS],
+    models: &[u32],
+) -> Verdict
+    requires { ⌜ length (now plane) ≡ planeBytes ⌝ }
+    requires { ⌜ length (now «depth_f32») ≡ pixels ⌝ }
+    requires { ⌜ length (now p) ≡ 2 ⌝ }
+    requires { ⌜ slotsOk kind.Texture (length (now textures)) 0 slots ≡ true ⌝ }
+    requires { ⌜ slotsOk kind.Model (length (now models)) 0 «model_slots» ≡ true ⌝ }
+    ensures { λ r. ⌜ r ≡ modelVerdict (now (p .entry)) (hasIn (lookIn kind.Texture slots (now (textures .entry)))) (s .matrices) (lookIn kind.Model «model_slots» (now (models .entry)) (getD (now (p .entry)) 0 0)) ⌝ }
+    ensures { λ _. ⌜ sheet (now (plane .exit)) (now («depth_f32» .exit)) ≡ strokesOn (modelStrokes s (now (p .entry)) (lookIn kind.Texture slots (now (textures .entry))) (lookIn kind.Model «model_slots» (now (models .entry)) (getD (now (p .entry)) 0 0))) (sheet (now (plane .entry)) (now («depth_f32» .entry))) ⌝ }
+{
+    let mode = at_most(p, 1, 2);
+    if let Verdict::Refused {
+        reason: _,
+        index: _,
+    } = mode {
+        return mode;
+    }
+    let found = store::slots::find(model_slots, p[0]);
+    let Found::At(slot) = found else {
+        return not_held();
+    };
+    let start = slot.start as usize;
+    let count = slot.width as usize;
+    draw_records(
+        plane,
+        depth_f32,
+        s,
+        slots,
+        textures,
+        p[1],
+        &models[start..start + 28 * count],
+        count,
+    )
+}
