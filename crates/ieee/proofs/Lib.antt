@@ -11,6 +11,7 @@ pub mod Ups
 pub mod Signs
 pub mod Bytes
 pub mod Whole
+pub mod Laid
 pub mod Boxes
 pub mod Ends
 pub mod Examples

@@ -83,7 +83,7 @@ le-of-not-lt : {j k : ℕ} → (j < k → ⊥) → k ≤ j
 le-of-not-lt {j} {k} f = elim (decLe k j) [ yes h ↦ h | no g ↦ absurd (f (lt-of-not-le g)) ]
 
 -- so what is not below 2 ^ 23 * 2 ^ k is a multiple of 2 ^ k
-multiple : (n k : ℕ) → Grid n → 8388608 * 2 ^ k ≤ n → (w : ℕ) × (n ≡ w * 2 ^ k)
+pub multiple : (n k : ℕ) → Grid n → 8388608 * 2 ^ k ≤ n → (w : ℕ) × (n ≡ w * 2 ^ k)
 multiple n k g h =
     let q = g .0 in
     let j = g .1 in

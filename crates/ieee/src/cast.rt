@@ -1,13 +1,15 @@
 // Floats to whole numbers: total, saturating, NaN gives 0.
 ghost use mathlib.Core.Path.{_≡_};
 ghost use Prim.Native.Nat.{_≤_, _<_};
+ghost use lib.Dec.{T};
 ghost use lib.IntN.{pos, negℤ};
-ghost use lib.Ieee.{binary32, ofBits};
+ghost use lib.Ieee.{binary32, ofBits, le};
 ghost use Rattle.ieee.specs.Casts.{cutOf, cutUpOf, floorOf, ceilOf, byteOf, unitByteOf, texelOf};
 ghost use Rattle.ieee.specs.Box.{firstOf, pastOf};
 
-// x rounded down, and brought to the numbers from 0 to last.
-pub fn cut(x: f32, last: u32) -> u32
+// x rounded down, and brought to the numbers from 0 to last: by std's cast, where `cut` has no
+// shorter way.
+fn cut_cast(x: f32, last: u32) -> u32
     ensures { λ r. ⌜ r ≡ cutOf x last ⌝ }
 {
     if x > -1.0 {
@@ -18,6 +20,35 @@ pub fn cut(x: f32, last: u32) -> u32
             }
         }
         return last;
+    }
+    0
+}
+
+// The same, of the bit pattern of a number from 1.0 to before 2^24.
+fn cut_bits(b: u32, last: u32) -> u32
+    requires { ⌜ (0x3f80_0000 ≤ b) × (b < 0x4b80_0000) ⌝ }
+    ensures { λ r. ⌜ r ≡ cutOf (ofBits binary32 b) last ⌝ }
+{
+    let n = (b % 0x80_0000 + 0x80_0000) >> (150 - b / 0x80_0000);
+    if n < last {
+        return n;
+    }
+    last
+}
+
+// The same, of any x.
+pub fn cut(x: f32, last: u32) -> u32
+    ensures { λ r. ⌜ r ≡ cutOf x last ⌝ }
+{
+    if x > 0.0 {
+        let b = f32::to_bits(x);
+        if b < 0x3f80_0000 {
+            return 0;
+        }
+        if b < 0x4b80_0000 {
+            return cut_bits(b, last);
+        }
+        return cut_cast(x, last);
     }
     0
 }
@@ -39,29 +70,26 @@ pub fn cut_up(x: f32, last: u32) -> u32
     0
 }
 
-// The whole part of a number from 1.0 to before 255.0, from its bit pattern.
-fn whole_of(b: u32) -> u32
-    requires { ⌜ (0x3f80_0000 ≤ b) × (b < 0x437f_0000) ⌝ }
-    ensures { λ r. ⌜ (r ≡ cutOf (ofBits binary32 b) 255) × (r < 256) ⌝ }
+// v brought to the numbers from 0.5 to 255.0, among which each byte has one that is cut to it.
+fn near_byte(v: f32) -> f32
+    ensures { λ r. ⌜ T (le (ofBits binary32 0x3f00_0000) r) × T (le r (ofBits binary32 0x437f_0000)) × (cutOf r 255 ≡ cutOf v 255) ⌝ }
 {
-    (b % 0x80_0000 + 0x80_0000) >> (150 - b / 0x80_0000)
+    if v > 0.5 {
+        if v < 255.0 {
+            return v;
+        }
+        return 255.0;
+    }
+    0.5
 }
 
-// By the pattern, which takes fewer steps than std's cast to a u64.
+// Without a branch, so that the compiler can cut two at once: the sum, 2^28 more, is exact, and its
+// last 24 digits are the fraction.
 pub fn byte(v: f32) -> u8
     ensures { λ r. ⌜ r ≡ byteOf v ⌝ }
 {
-    if v > 0.0 {
-        let b = f32::to_bits(v);
-        if b < 0x3f80_0000 {
-            return 0;
-        }
-        if b < 0x437f_0000 {
-            return whole_of(b) as u8;
-        }
-        return 255;
-    }
-    0
+    let b = f64::to_bits((near_byte(v) as f64) + 268435456.0);
+    ((b >> 24) % 256) as u8
 }
 
 // A colour from 0.0 to 1.0 as a byte.

@@ -183,7 +183,8 @@ pub fn shade_at(texels: &[u32], ink: Ink, b: Corners, i: Corners) -> Shade
     match ink {
         Ink::Flat(c) => Shade::Of(c),
         Ink::Blend(c) => blended(texels, c, b, i),
-        Ink::Plain(s) => Shade::Of(rgba_of(plain(texel(texels, s, b)))),
+        // a nibble times 17 is itself after the way by floats
+        Ink::Plain(s) => Shade::Of(texel(texels, s, b)),
         Ink::Tinted(s, c) => Shade::Of(rgba_of(tinted(plain(texel(texels, s, b)), c))),
         Ink::Mixed(s, c) => Shade::Of(rgba_of(tinted(plain(texel(texels, s, b)), mixed(c, b)))),
     }
