@@ -8,7 +8,8 @@ use lib.Dec.{T, eqb, eqb→eq}
 use lib.Ieee.{ofInt, ofBits, mul, add, div, lt}
 use lib.Ieee.Fits.{and-l, and-r}
 use Rattle.ieee.specs.Units.{wholes}
-use Rattle.raster.specs.Ink.{byteOf, unitOf, rgbaOf, plainOf, nibblesOf}
+use Rattle.ieee.specs.Number.{unitOf}
+use Rattle.raster.specs.Ink.{byteOf, rgbaOf, plainOf, nibblesOf}
 
 kept : ℕ → Bool
 kept zero = true

@@ -3,10 +3,10 @@ use mathlib.Core.Bool.{Bool, cond}
 use mathlib.Core.List.{List}
 use Prim.Native.Nat.{ℕ, _+_, _*_, _/_, _%_, _≤_}
 use lib.Dec.{eqb}
-use lib.IntN.{pos}
 use lib.ListN.{getD}
-use lib.Ieee.{Float, binary32, ofBits, ofInt}
+use lib.Ieee.{Float}
 use Rattle.ieee.specs.Range.{clampOf, tinyOf}
+use Rattle.ieee.specs.Number.{unitOf}
 use Rattle.ieee.specs.Casts as casts
 use Rattle.vector.specs.Three.{_⊕_, _·_, _⊘_, at}
 use Rattle.clip.specs.declared.vertex.ClipVertex.{ClipVertex}
@@ -77,11 +77,7 @@ nibblesOf t = record { r = t / 4096 % 16 * 17; g = t / 256 % 16 * 17; b = t / 16
 unfoldable pub texelOf : List ℕ → Sampler → Corners → Rgba
 texelOf texels s b = nibblesOf (halfOf texels (placeOf s b))
 
--- `data[ti + ch] as f32 / 255.0`
-abbrev pub unitOf : ℕ → Float
-unitOf t = ofInt binary32 (pos t) ⊘ ofBits binary32 0x437f_0000
-
--- `t`
+-- `t`: `data[ti + ch] as f32 / 255.0`
 unfoldable pub plainOf : Rgba → Color
 plainOf t = record { r = unitOf (t .r); g = unitOf (t .g); b = unitOf (t .b); a = unitOf (t .a) }
 

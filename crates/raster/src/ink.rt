@@ -1,11 +1,12 @@
 // What a triangle is painted with, and the colour that it gives at a pixel.
 use clip::vertex::ClipVertex;
 use face::Corners;
+use ieee::number::unit_float;
 use screen::plane::Rgba;
 ghost use mathlib.Core.Path.{_≡_};
 ghost use Prim.Native.Nat.{_*_, _<_};
 ghost use lib.ListN.{length};
-ghost use Rattle.raster.specs.Ink.{byteOf, rgbaOf, dividedOf, blendOf, Texture, placeOf, halfOf, nibblesOf, texelOf, unitOf, plainOf, tintedOf, mixedOf, Stored, shadeOf, colorsOf, samplerOf};
+ghost use Rattle.raster.specs.Ink.{byteOf, rgbaOf, dividedOf, blendOf, Texture, placeOf, halfOf, nibblesOf, texelOf, plainOf, tintedOf, mixedOf, Stored, shadeOf, colorsOf, samplerOf};
 
 // An interpolated colour, or a flat one.
 pub struct Color {
@@ -136,20 +137,14 @@ fn texel(texels: &[u32], s: Sampler, b: Corners) -> Rgba
     nibbles(half(texels, s.width, s.height, n))
 }
 
-fn unit(t: u8) -> f32
-    ensures { λ r. ⌜ r ≡ unitOf t ⌝ }
-{
-    ieee::number::byte_float(t) / 255.0
-}
-
 fn plain(t: Rgba) -> Color
     ensures { λ r. ⌜ r ≡ plainOf t ⌝ }
 {
     Color {
-        r: unit(t.r),
-        g: unit(t.g),
-        b: unit(t.b),
-        a: unit(t.a),
+        r: unit_float(t.r),
+        g: unit_float(t.g),
+        b: unit_float(t.b),
+        a: unit_float(t.a),
     }
 }
 
