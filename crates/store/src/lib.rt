@@ -10,7 +10,7 @@ ghost use mathlib.Core.Bool.{true};
 ghost use Prim.Native.Nat.{_≤_};
 ghost use lib.ListN.{length};
 ghost use Rattle.store.specs.Uploads.{mostWords};
-ghost use Rattle.store.specs.Slots.{areaOf, sidesOk, slotsOk, isFits, Uploaded, wholeOf};
+ghost use Rattle.store.specs.Slots.{areaOf, sidesOk, noSlot, slotsOk, isFits, Uploaded, wholeOf};
 
 pub const SLOTS: usize = 64;
 
@@ -28,6 +28,22 @@ pub struct Slot {
     pub width: u32,
     pub height: u32,
     pub start: u32,
+}
+
+impl Slot {
+    pub const UNUSED: Slot = Slot {
+        held: false,
+        number: 0,
+        width: 0,
+        height: 0,
+        start: 0,
+    };
+
+    pub fn unused() -> Slot
+        ensures { λ r. ⌜ r ≡ noSlot ⌝ }
+    {
+        Slot::UNUSED
+    }
 }
 
 // What stands under a number.

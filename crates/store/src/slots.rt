@@ -104,13 +104,7 @@ fn others(kind: Kind, slots: [Slot; SLOTS], number: u32) -> Left
     ensures { λ r. ⌜ r .slots ≡ slotsOf (without number (told kind slots)) ⌝ }
     ensures { λ r. ⌜ (r .count ≡ length (without number (told kind slots))) × (r .total ≡ total (without number (told kind slots))) ⌝ }
 {
-    let mut out = [Slot {
-        held: false,
-        number: 0,
-        width: 0,
-        height: 0,
-        start: 0,
-    }; SLOTS];
+    let mut out = [Slot::UNUSED; SLOTS];
     let mut i = 0;
     let mut count = 0;
     let mut total = 0;

@@ -1,0 +1,82 @@
+-- Control: what the words so far have left, the picture apart; and a command on it, over any way of keeping uploads. `Kept.antt` has one way, slots over lent words; the plain machine's, a whole history, is another. Document 000, `execute`. Definitions only.
+use Prim.Native.Nat.{ℕ}
+use mathlib.Core.Bool.{cond}
+use mathlib.Core.Option.{Option, none, some}
+use mathlib.Core.List.{List}
+use lib.Bits.{bitOr}
+use Rattle.verdict.specs.Verdict.{bitsOf}
+use Rattle.verdict.specs.declared.Reason.the-variants as reason
+use Rattle.verdict.specs.declared.Verdict.{Verdict}
+use Rattle.verdict.specs.declared.Verdict.the-variants.{Done, Refused}
+use Rattle.settings.specs.declared.Settings.{Settings}
+use Rattle.store.specs.declared.Room.{Room}
+use Rattle.store.specs.declared.Room.the-variants.{Fits, NoSlot, NoWords}
+use Rattle.store.specs.Slots.{isFits}
+use Rattle.execute.specs.Paints.{Paint, Picture, paintsOn}
+use Rattle.execute.specs.Commands as commands
+use Rattle.execute.specs.Commands.{Look, Load, Told}
+
+-- a way of keeping uploads, and the payload of the command begun. `room` is asked of uploads that passed their checks, and `put` told of those that have room
+pub record Keep (X : Type 0) : Type 0 where
+  pub look : X → Look
+  pub room : X → Load → Room
+  pub put : X → Load → X
+  pub payload : X → List ℕ
+  pub add : ℕ → X → X
+  pub clear : X → X
+
+-- what the words so far have left: the picture apart
+pub record Control (X : Type 0) : Type 0 where
+  pub settings : Settings
+  pub status : ℕ
+  pub opcode : ℕ
+  pub wanted : ℕ
+  pub box : X
+
+-- a control, and what is to be painted
+pub record Step (X : Type 0) : Type 0 where
+  pub control : Control X
+  pub paints : List Paint
+
+-- a machine: control, and the picture, which paints alone change
+pub record Seen (X : Type 0) : Type 0 where
+  pub control : Control X
+  pub picture : Picture
+
+abbrev pub stepped : {X : Type 0} → Step X → Picture → Seen X
+stepped s p = record { control = s .control; picture = paintsOn (s .paints) p }
+
+-- "9 no slot, else 10 no words"
+abbrev pub roomVerdict : Room → Verdict
+roomVerdict Fits = Done
+roomVerdict NoSlot = Refused reason.NoSlot 0
+roomVerdict NoWords = Refused reason.NoWords 0
+
+module _ {X : Type 0} (K : Keep X) where
+  -- the verdict of a command, and the uploads after it: one that passed its checks is kept where it has room
+  abbrev pub verdictOf : X → Told → Option Load → Verdict
+  verdictOf x t none = t .verdict
+  verdictOf x t (some l) = roomVerdict (K .room x l)
+
+  abbrev pub keptOf : X → Option Load → X
+  keptOf x none = x
+  keptOf x (some l) = cond (isFits (K .room x l)) (K .put x l) x
+
+  -- a status bit for what was refused: "No command clears them"
+  abbrev pub ended : Control X → Told → Control X
+  ended c t = record {
+    settings = t .settings;
+    status = bitOr (c .status) (bitsOf (verdictOf (c .box) t (t .load)));
+    opcode = 0;
+    wanted = 0;
+    box = K .clear (keptOf (c .box) (t .load));
+  }
+
+  -- the command whose payload is complete: none is begun then
+  unfoldable pub execute : Control X → Step X
+  execute c =
+      let t : Told = commands.told (K .look (c .box)) (c .settings) (c .opcode) (K .payload (c .box)) in
+      record { control = ended c t; paints = t .paints }
+
+  abbrev pub executed : Seen X → Seen X
+  executed m = stepped (execute (m .control)) (m .picture)

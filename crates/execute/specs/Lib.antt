@@ -1,0 +1,4 @@
+pub mod Paints
+pub mod Commands
+pub mod Control
+pub mod Kept

@@ -1,0 +1,40 @@
+-- The machine's small state, the fresh one, and when a state is well formed. Document 01, "Lent memory and call answers". Definitions only.
+use Prim.Native.Nat.{ℕ, _+_}
+use mathlib.Core.Bool.{Bool, _&&_, _||_}
+use mathlib.Core.List.{List}
+use lib.Dec.{eqb, leb, ltb}
+use lib.ListN.{replicate}
+use Rattle.settings.specs.Settings as settings
+use Rattle.store.specs.Uploads.{slotCount}
+use Rattle.store.specs.Slots.{noSlot, slotsOk}
+use Rattle.store.specs.declared.Kind.the-variants.{Texture, Model}
+use Rattle.state.specs.declared.State.{State}
+
+-- "command area 524,291 words", and the most payload words of a command
+abbrev pub mostPayload : ℕ
+mostPayload = 524291
+
+-- "The fresh state": the settings', "no uploads, status 0, no command begun"
+abbrev pub fresh : State
+fresh = record {
+  settings = settings.fresh;
+  textures = replicate slotCount noSlot;
+  models = replicate slotCount noSlot;
+  opcode = 0;
+  gathered = 0;
+  wanted = 0;
+  status = 0;
+}
+
+-- "no command begun (opcode, gathered, wanted all 0), or opcode 1..255, wanted ≥ 1 and gathered + wanted ≤ 524,291"
+unfoldable pub begunOk : ℕ → ℕ → ℕ → Bool
+begunOk opcode gathered wanted =
+    (eqb opcode 0 && (eqb gathered 0 && eqb wanted 0))
+    || ((ltb 0 opcode && leb opcode 255) && (ltb 0 wanted && leb (gathered + wanted) mostPayload))
+
+-- "Well formed", with stores of these lengths. "Status may be anything"
+unfoldable pub wellFormed : State → ℕ → ℕ → Bool
+wellFormed s textures models =
+    settings.settingsOk (s .settings)
+    && (begunOk (s .opcode) (s .gathered) (s .wanted)
+    && (slotsOk Texture textures 0 (s .textures) && slotsOk Model models 0 (s .models)))
