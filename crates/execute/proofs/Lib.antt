@@ -1,2 +1,4 @@
 pub mod Laws
 pub mod Formed
+pub mod Painted
+pub mod Executed

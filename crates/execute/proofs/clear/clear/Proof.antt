@@ -1,5 +1,6 @@
 -- The verdict is the check's; the picture is by the two flags. Assumes nothing.
 use mathlib.Core.Path.{sym, _∙_}
+use native.Mathlib.Omega.{arith}
 use borrow.Author.Needs.{needs}
 use Rattle.execute.proofs.Laws.{clear-verdict, clear-both, clear-plane, clear-depths, clear-nothing}
 use Rattle.execute.proofs.clear.clear.Statement.{statement}
@@ -37,7 +38,7 @@ returns c =
     let filled = c .before .before .before .before .before .before .before .before .before in
     let refilled = c .before .before .before .refill .ensures in (
       filled .before .before .before .before .before .at-most .ensures ∙ sym (clear-verdict _),
-      clear-both _ _ _ _ (filled .before .before .before .before .if1 .taken) (filled .before .rgba-of .ensures) (filled .fill .ensures) (c .before .before .before .before .before .before .if2 .taken) (refilled .0) (refilled .1),
+      clear-both _ _ _ _ (omega arith) (filled .before .rgba-of .ensures) (filled .fill .ensures) (omega arith) (refilled .0) (refilled .1),
     )
 
 same-length-4 : tie.Need-same-length-4
@@ -47,7 +48,7 @@ returns-2 : tie.Need-returns-2
 returns-2 c =
     let filled = c .before .before .before in (
       filled .before .before .before .before .before .at-most .ensures ∙ sym (clear-verdict _),
-      clear-plane _ _ _ _ (filled .before .before .before .before .if1 .taken) (filled .before .rgba-of .ensures) (filled .fill .ensures) (c .if2 .left),
+      clear-plane _ _ _ _ (omega arith) (filled .before .rgba-of .ensures) (filled .fill .ensures) (λ e. omega arith),
     )
 
 refill-requires-2 : tie.Need-refill-requires-2
@@ -63,10 +64,10 @@ returns-3 : tie.Need-returns-3
 returns-3 c =
     let else1 = c .before .before .before .before .before .before .before in
     let refilled = c .before .before .before .refill2 .ensures in
-    (else1 .before .at-most .ensures ∙ sym (clear-verdict _), clear-depths _ _ _ _ (else1 .if1 .left) (c .before .before .before .before .before .before .if3 .taken) (refilled .0) (refilled .1))
+    (else1 .before .at-most .ensures ∙ sym (clear-verdict _), clear-depths _ _ _ _ (λ e. omega arith) (omega arith) (refilled .0) (refilled .1))
 
 returns-4 : tie.Need-returns-4
-returns-4 c = (c .before .before .at-most .ensures ∙ sym (clear-verdict _), clear-nothing _ _ _ _ (c .before .if1 .left) (c .if3 .left))
+returns-4 c = (c .before .before .at-most .ensures ∙ sym (clear-verdict _), clear-nothing _ _ _ _ (λ e. omega arith) (λ e. omega arith))
 
 pub clear-spec : {M : Type 1} → statement M
 clear-spec =
