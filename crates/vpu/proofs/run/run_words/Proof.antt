@@ -1,0 +1,152 @@
+-- The loop's invariant: what is left of the words, run on the machine at hand, is the whole run. A turn is a word, and a command where one is complete. Assumes nothing.
+use Prim.Native.Nat.{_-_}
+use mathlib.Core.Path.{_≡_, refl, sym, _∙_}
+use native.Mathlib.Omega.{arith}
+use borrow.Author.Needs.{needs}
+use lib.ListN.{length, length-map}
+use Rattle.execute.specs.Kept.{machine}
+use Rattle.vpu.proofs.Laws.{Held, held-start, held-takes, held-word, held-runs, held-command, held-end}
+use Rattle.vpu.proofs.run.run_words.Statement.{statement}
+use Rattle.vpu.proofs.run.run_words.Tie as tie
+
+abbrev Inv-loop : tie.InvT-loop
+Inv-loop words plane₀ depth₀ depth-f32₀ command₀ textures₀ models₀ s₀ f₀ k₀ plane depth depth-f32 command textures models s f k =
+    Held words (machine s₀ plane₀ depth₀ depth-f32₀ command₀ textures₀ models₀) s f plane depth depth-f32 command textures models k
+
+abbrev μ-loop : tie.MeasureT-loop
+μ-loop words plane₀ depth₀ depth-f32₀ command₀ textures₀ models₀ s₀ f₀ k₀ plane depth depth-f32 command textures models s f k =
+    length words - k
+
+-- the places that the answers look at
+abbrev took : tie.After-ready Inv-loop μ-loop → tie.After-take-word Inv-loop μ-loop
+took c = c .before .before .before
+
+abbrev turn : tie.After-take-word Inv-loop μ-loop → tie.In-loop Inv-loop μ-loop
+turn c = c .before .before .before
+
+abbrev framed : tie.After-execute-arg6 Inv-loop μ-loop → tie.After-with-frame Inv-loop μ-loop
+framed c = c .before .before .before .before .before .before
+
+abbrev executed : tie.After-frame-of2 Inv-loop μ-loop → tie.After-execute Inv-loop μ-loop
+executed c = c .before .before .before .before .before .before .before .before .before .before
+
+-- a state's arrays of slots have their length by their type
+long-textures : (c : tie.After-with-frame Inv-loop μ-loop) → length (c .with-frame .result .textures) ≡ 64
+long-textures c = simp length-map at (c .with-frame .ok .1 .1 .1 .0 .1 .0 .1)
+
+long-models : (c : tie.After-with-frame Inv-loop μ-loop) → length (c .with-frame .result .models) ≡ 64
+long-models c = simp length-map at (c .with-frame .ok .1 .1 .1 .1 .0 .1 .0 .1)
+
+frame-of-requires : tie.Need-frame-of-requires Inv-loop μ-loop
+frame-of-requires c κs = tt
+
+loop-holds : tie.Need-loop-holds Inv-loop μ-loop
+loop-holds c = held-start _ _ _ _ _ _ _ _ (c .before .before .before .before .before .before .before .pre) (c .frame-of .ensures)
+
+mul-w : tie.Need-mul-w Inv-loop μ-loop
+mul-w c = omega arith
+
+shared-slice-read-w : tie.Need-shared-slice-read-w Inv-loop μ-loop
+shared-slice-read-w c = omega arith
+
+add-k : tie.Need-add-k Inv-loop μ-loop
+add-k c = omega arith
+
+take-word-requires : tie.Need-take-word-requires Inv-loop μ-loop
+take-word-requires c κs =
+    let h = c .before .before .before .loop .inv in
+    (held-takes h, h .sound .of-command)
+
+ready-requires : tie.Need-ready-requires Inv-loop μ-loop
+ready-requires c κs = tt
+
+with-frame-requires : tie.Need-with-frame-requires Inv-loop μ-loop
+with-frame-requires c κs = tt
+
+execute-requires : tie.Need-execute-requires Inv-loop μ-loop
+execute-requires c κs =
+    let f = framed c in
+    let t = took (f .before .before) in
+    let i = turn t in
+    let r = held-runs (i .before .loop .inv) (i .loop-test .taken) refl (t .take-word .ensures .0) (t .take-word .ensures .1) (f .with-frame .ensures) in
+    (r .of-plane, (r .of-depth, (r .of-floats, (r .within, (r .of-command, (r .of-textures, r .of-models))))))
+
+frame-of-requires-2 : tie.Need-frame-of-requires-2 Inv-loop μ-loop
+frame-of-requires-2 c κs = tt
+
+loop-less : tie.Need-loop-less Inv-loop μ-loop
+loop-less c = omega (arith, turn (took (framed (executed c .before) .before .before)))
+
+loop-again : tie.Need-loop-again Inv-loop μ-loop
+loop-again c =
+    let x = executed c in
+    let f = framed (x .before) in
+    let t = took (f .before .before) in
+    let i = turn t in
+    let kept = x .execute .kept .1 in
+    held-command (i .before .loop .inv) (i .loop-test .taken) refl (t .take-word .ensures .0) (t .take-word .ensures .1)
+    (sym (f .before .before .ready .ensures) ∙ f .before .if1 .taken) (f .with-frame .ensures) (x .execute .ensures)
+    (kept .0) (kept .1 .0) (kept .1 .1 .0) (kept .1 .1 .1 .1 .0) (kept .1 .1 .1 .1 .1 .0) (long-textures f) (long-models f) (c .frame-of2 .ensures)
+
+loop-less-2 : tie.Need-loop-less-2 Inv-loop μ-loop
+loop-less-2 c = omega (arith, turn (took (c .before)))
+
+loop-again-2 : tie.Need-loop-again-2 Inv-loop μ-loop
+loop-again-2 c =
+    let t = took (c .before) in
+    let i = turn t in
+    held-word (i .before .loop .inv) (i .loop-test .taken) refl (t .take-word .ensures .0) (t .take-word .ensures .1)
+    (omega (arith, t .before .before .shared-slice-known2 .given (i .before .loop .k))) (sym (c .before .ready .ensures) ∙ c .if1 .left)
+
+with-frame-requires-2 : tie.Need-with-frame-requires-2 Inv-loop μ-loop
+with-frame-requires-2 c κs = tt
+
+same-length : tie.Need-same-length Inv-loop μ-loop
+same-length c = omega (arith, c .before .before .loop .inv .sound)
+
+same-length-2 : tie.Need-same-length-2 Inv-loop μ-loop
+same-length-2 c = omega (arith, c .before .before .loop .inv .sound)
+
+same-length-3 : tie.Need-same-length-3 Inv-loop μ-loop
+same-length-3 c = omega (arith, c .before .before .loop .inv .sound)
+
+same-length-4 : tie.Need-same-length-4 Inv-loop μ-loop
+same-length-4 c = omega (arith, c .before .before .loop .inv .sound)
+
+same-length-5 : tie.Need-same-length-5 Inv-loop μ-loop
+same-length-5 c = c .before .before .loop .inv .same-textures
+
+same-length-6 : tie.Need-same-length-6 Inv-loop μ-loop
+same-length-6 c = c .before .before .loop .inv .same-models
+
+returns : tie.Need-returns Inv-loop μ-loop
+returns c = held-end (c .before .before .loop .inv) (c .before .loop-test .left) (c .with-frame2 .ensures)
+
+pub run-words-spec : {M : Type 1} → statement M
+run-words-spec =
+    tie.close
+    (tie.spec
+    Inv-loop
+    μ-loop
+    frame-of-requires
+    loop-holds
+    mul-w
+    shared-slice-read-w
+    add-k
+    take-word-requires
+    ready-requires
+    with-frame-requires
+    execute-requires
+    frame-of-requires-2
+    loop-less
+    loop-again
+    loop-less-2
+    loop-again-2
+    with-frame-requires-2
+    same-length
+    same-length-2
+    same-length-3
+    same-length-4
+    same-length-5
+    same-length-6
+    returns)

@@ -1,0 +1,55 @@
+-- The public calls: what each answers, and the state and every lent element afterwards. Document 01, "Lent memory and call answers". Definitions only.
+use Prim.Native.Nat.{ℕ}
+use mathlib.Core.Bool.{Bool, cond, _&&_}
+use mathlib.Core.List.{List}
+use lib.Dec.{eqb, leb}
+use lib.IntN.{ℤ}
+use lib.ListN.{length, replicate}
+use lib.Ieee.{Float}
+use Rattle.screen.specs.Plane.{planeBytes}
+use Rattle.screen.specs.Draw.{pixels}
+use Rattle.screen.specs.Depths.{farInts, farFloats}
+use Rattle.store.specs.Uploads.{mostWords}
+use Rattle.state.specs.State.{mostPayload, fresh, wellFormed}
+use Rattle.state.specs.declared.State.{State}
+use Rattle.execute.specs.Kept.{Machine, machine, asBox}
+use Rattle.vpu.specs.Framing.{run}
+use Rattle.vpu.specs.declared.Answer.{Answer}
+use Rattle.vpu.specs.declared.Answer.the-variants.{Done, WrongLength, Malformed}
+
+-- the table's numbers
+abbrev pub numberOf : Answer → ℕ
+numberOf Done = 0
+numberOf WrongLength = 1
+numberOf Malformed = 2
+
+-- a call's answer, and all that it leaves
+pub record Outcome : Type 0 where
+  pub answer : ℕ
+  pub machine : Machine
+
+abbrev pub outcome : ℕ → Machine → Outcome
+outcome n m = record { answer = n; machine = m }
+
+-- "plane 307,200 bytes; integer depth and float depth 76,800 numbers each; command area 524,291 words; a texture store and a model store, each 0 to 16,777,216 words"
+unfoldable pub lengthsOk : ℕ → ℕ → ℕ → ℕ → ℕ → ℕ → Bool
+lengthsOk p d f c t m =
+    eqb p planeBytes && (eqb d pixels && (eqb f pixels && (eqb c mostPayload && (leb t mostWords && leb m mostWords))))
+
+-- "1 is tested before 2"
+unfoldable pub feed : State → List ℕ → List ℕ → List ℤ → List Float → List ℕ → List ℕ → List ℕ → Outcome
+feed s ws P D F C T M =
+    let m : Machine = machine s P D F C T M in
+    cond (lengthsOk (length P) (length D) (length F) (length C) (length T) (length M))
+    (cond (wellFormed s (length T) (length M)) (outcome 0 (run asBox m ws)) (outcome 2 m))
+    (outcome 1 m)
+
+-- "Reset zeroes plane and stores, fills integer depth with 2147483647 and float depth with 1.0; the command area is untouched"
+unfoldable pub cleared : List ℕ → List ℤ → List Float → List ℕ → List ℕ → List ℕ → Machine
+cleared P D F C T M =
+    machine fresh (replicate (length P) 0) (farInts (length D)) (farFloats (length F)) C (replicate (length T) 0) (replicate (length M) 0)
+
+-- "reset takes no state and returns the fresh one"
+unfoldable pub reset : List ℕ → List ℤ → List Float → List ℕ → List ℕ → List ℕ → Outcome
+reset P D F C T M =
+    cond (lengthsOk (length P) (length D) (length F) (length C) (length T) (length M)) (outcome 0 (cleared P D F C T M)) (outcome 1 (machine fresh P D F C T M))

@@ -1,0 +1,63 @@
+-- The framing's four numbers by themselves, as the code carries them through payload words; `Framing.antt` is what a word does. Definitions only.
+use Prim.Native.Nat.{ℕ, _+_, _-_, _/_, _%_}
+use mathlib.Core.Path.{_≡_}
+use mathlib.Core.Bool.{Bool, true, false, cond, not}
+use mathlib.Core.List.{List}
+use lib.Bits.{bitOr}
+use lib.Dec.{eqb, ltb}
+use lib.ListN.{set}
+use Rattle.verdict.specs.Verdict.{bitFor, numberOf}
+use Rattle.verdict.specs.declared.Reason.{Reason}
+use Rattle.verdict.specs.declared.Reason.the-variants.{ZeroOpcode, CountTooLarge}
+use Rattle.screen.specs.Plane.{planeBytes}
+use Rattle.screen.specs.Draw.{pixels}
+use Rattle.store.specs.declared.Kind.the-variants.{Texture, Model}
+use Rattle.state.specs.State.{mostPayload, begunOk}
+use Rattle.state.specs.declared.State.{State}
+use Rattle.execute.specs.Kept.{Formed}
+use Rattle.vpu.specs.declared.frame.Frame.{Frame}
+
+abbrev pub frame : ℕ → ℕ → ℕ → ℕ → Frame
+frame o g w s = record { opcode = o; gathered = g; wanted = w; status = s }
+
+abbrev pub frameOf : State → Frame
+frameOf s = frame (s .opcode) (s .gathered) (s .wanted) (s .status)
+
+abbrev pub withFrame : State → Frame → State
+withFrame s f = record {
+  settings = s .settings;
+  textures = s .textures;
+  models = s .models;
+  opcode = f .opcode;
+  gathered = f .gathered;
+  wanted = f .wanted;
+  status = f .status;
+}
+
+abbrev pub droppedFrame : Frame → Reason → Frame
+droppedFrame f r = frame (f .opcode) (f .gathered) (f .wanted) (bitOr (f .status) (bitFor (numberOf r)))
+
+unfoldable pub headerFrame : Frame → ℕ → Frame
+headerFrame f w =
+    cond (eqb (w / 16777216) 0) (droppedFrame f ZeroOpcode)
+    (cond (ltb mostPayload (w % 16777216)) (droppedFrame f CountTooLarge) (frame (w / 16777216) (f .gathered) (w % 16777216) (f .status)))
+
+unfoldable pub wordFrame : Frame → ℕ → Frame
+wordFrame f w = cond (eqb (f .wanted) 0) (headerFrame f w) (frame (f .opcode) (f .gathered + 1) (f .wanted - 1) (f .status))
+
+unfoldable pub wordArea : Frame → ℕ → List ℕ → List ℕ
+wordArea f w area = cond (eqb (f .wanted) 0) area (set area (f .gathered) w)
+
+-- a command is begun and its payload is complete
+unfoldable pub readyOf : Frame → Bool
+readyOf f = cond (eqb (f .wanted) 0) (not (eqb (f .opcode) 0)) false
+
+-- a machine that words may be run on: lent memories of these lengths, a begun command and stores that are well formed
+pub record Sound (s : State) (plane depth depthF command textures models : ℕ) : Type 0 where
+  pub of-plane : plane ≡ planeBytes
+  pub of-depth : depth ≡ pixels
+  pub of-floats : depthF ≡ pixels
+  pub of-command : command ≡ mostPayload
+  pub begun : begunOk (s .opcode) (s .gathered) (s .wanted) ≡ true
+  pub of-textures : Formed Texture (s .textures) textures
+  pub of-models : Formed Model (s .models) models

@@ -1,0 +1,103 @@
+// The framing's four numbers, apart from the rest of the state: a payload word moves them and
+// nothing else.
+use state::MAX_COMMAND_WORDS;
+use state::State;
+use verdict::Reason;
+use verdict::Verdict;
+ghost use mathlib.Core.Path.{_≡_};
+ghost use Prim.Native.Nat.{_+_, _≤_};
+ghost use lib.ListN.{length};
+ghost use Rattle.vpu.specs.Frames.{frameOf, withFrame, droppedFrame, headerFrame, wordFrame, wordArea, readyOf};
+ghost use Rattle.state.specs.State.{mostPayload};
+
+pub struct Frame {
+    pub opcode: u32,
+    pub gathered: u32,
+    pub wanted: u32,
+    pub status: u32,
+}
+
+pub fn frame_of(s: State) -> Frame
+    ensures { λ r. ⌜ r ≡ frameOf s ⌝ }
+{
+    Frame {
+        opcode: s.opcode,
+        gathered: s.gathered,
+        wanted: s.wanted,
+        status: s.status,
+    }
+}
+
+pub fn with_frame(s: State, f: Frame) -> State
+    ensures { λ r. ⌜ r ≡ withFrame s f ⌝ }
+{
+    let mut t = s;
+    t.opcode = f.opcode;
+    t.gathered = f.gathered;
+    t.wanted = f.wanted;
+    t.status = f.status;
+    t
+}
+
+// Only the header is dropped: the next word is a header.
+fn dropped(f: Frame, reason: Reason) -> Frame
+    ensures { λ r. ⌜ r ≡ droppedFrame f reason ⌝ }
+{
+    let verdict = Verdict::Refused { reason, index: 0 };
+    Frame {
+        opcode: f.opcode,
+        gathered: f.gathered,
+        wanted: f.wanted,
+        status: verdict::status_after(f.status, verdict),
+    }
+}
+
+// Opcode in the top 8 bits, count in the low 24.
+fn header(f: Frame, word: u32) -> Frame
+    ensures { λ r. ⌜ r ≡ headerFrame f word ⌝ }
+{
+    let opcode = word / 16777216;
+    let count = word % 16777216;
+    if opcode == 0 {
+        return dropped(f, Reason::ZeroOpcode);
+    }
+    if count > MAX_COMMAND_WORDS {
+        return dropped(f, Reason::CountTooLarge);
+    }
+    Frame {
+        opcode,
+        gathered: f.gathered,
+        wanted: count,
+        status: f.status,
+    }
+}
+
+// A word: a header, or one of the payload's, which goes to the command area.
+pub fn take_word(f: Frame, word: u32, command: &mut [u32]) -> Frame
+    requires { ⌜ f .gathered + f .wanted ≤ length (now command) ⌝ }
+    requires { ⌜ length (now command) ≡ mostPayload ⌝ }
+    ensures { λ r. ⌜ r ≡ wordFrame f word ⌝ }
+    ensures { λ _. ⌜ now (command .exit) ≡ wordArea f word (now (command .entry)) ⌝ }
+{
+    if f.wanted == 0 {
+        return header(f, word);
+    }
+    let at = f.gathered as usize;
+    command[at] = word;
+    Frame {
+        opcode: f.opcode,
+        gathered: f.gathered + 1,
+        wanted: f.wanted - 1,
+        status: f.status,
+    }
+}
+
+// Is a command begun, and its payload complete?
+pub fn ready(f: Frame) -> bool
+    ensures { λ r. ⌜ r ≡ readyOf f ⌝ }
+{
+    if f.wanted == 0 {
+        return f.opcode != 0;
+    }
+    false
+}
