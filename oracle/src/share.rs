@@ -3,7 +3,8 @@
 use crate::arguments::Arguments;
 use std::collections::BTreeMap;
 use vpu_oracle::original::Vpu;
-use vpu_oracle::profiles::{self, Profile};
+use vpu_oracle::profiles;
+use vpu_oracle::stored;
 
 const DRAWS: [u8; 6] = [0x12, 0x14, 0x16, 0x18, 0x19, 0x1b];
 
@@ -57,13 +58,16 @@ struct Tally {
 
 pub fn share(arguments: &Arguments) -> Result<(), String> {
     arguments.expect(0, &["profile", "seed", "count"])?;
-    let chosen = profiles::named(arguments.wanted("profile")?)?;
+    let profile = arguments.wanted("profile")?;
+    if profile == "stored" {
+        tallied("stored", stored::all().iter().map(|stream| stream.calls.clone()));
+        return Ok(());
+    }
+    let chosen = profiles::named(profile)?;
     let (seed, count) = (arguments.number("seed", 1)?, arguments.number("count", 10)?);
     let mut overall = Counts::new();
     for profile in chosen {
-        let mut tally = Tally::default();
-        (0..count).for_each(|index| tally.run(profile, seed, index));
-        tally.print(profile);
+        let tally = tallied(profile.name, (0..count).map(|index| profile.calls(seed, index)));
         for (opcode, count) in &tally.counts {
             overall.entry(*opcode).or_default().add(count);
         }
@@ -74,9 +78,16 @@ pub fn share(arguments: &Arguments) -> Result<(), String> {
     Ok(())
 }
 
+/// What these streams reach, counted and printed.
+fn tallied(name: &str, streams: impl Iterator<Item = Vec<Vec<u32>>>) -> Tally {
+    let mut tally = Tally::default();
+    streams.for_each(|calls| tally.run(calls));
+    tally.print(name);
+    tally
+}
+
 impl Tally {
-    fn run(&mut self, profile: &Profile, seed: u64, index: u64) {
-        let calls = profile.calls(seed, index);
+    fn run(&mut self, calls: Vec<Vec<u32>>) {
         let words = calls.concat();
         self.streams += 1;
         self.calls += calls.len() as u64;
@@ -133,10 +144,10 @@ impl Tally {
         }
     }
 
-    fn print(&self, profile: &Profile) {
+    fn print(&self, name: &str) {
         println!(
             "{}: {} streams, {} calls, {} words; {} end inside a command; {} flat triangles beyond 8192",
-            profile.name, self.streams, self.calls, self.words, self.begun_at_end, self.flat_beyond
+            name, self.streams, self.calls, self.words, self.begun_at_end, self.flat_beyond
         );
         println!(
             "  stores: at most {} words for {} textures, {} words for {} models",
