@@ -1,6 +1,7 @@
 //! The streams that are stored for the program `replay`: some by hand, the rest from the generator.
 
 mod cases;
+mod extras;
 mod refusals;
 mod scene;
 mod traps;
@@ -18,6 +19,7 @@ pub fn all() -> Vec<Stored> {
     let mut streams = cases::cases();
     streams.extend(traps::traps());
     streams.extend(refusals::refusals());
+    streams.extend(extras::extras());
     streams.extend(PROFILES.iter().filter(|profile| profile.inside_domain).flat_map(generated));
     streams
 }
