@@ -5,8 +5,7 @@ use std::collections::BTreeMap;
 use vpu_oracle::original::Vpu;
 use vpu_oracle::profiles;
 use vpu_oracle::stored;
-
-const DRAWS: [u8; 6] = [0x12, 0x14, 0x16, 0x18, 0x19, 0x1b];
+use vpu_oracle::watch::{ended_by, Seen, DRAWS};
 
 #[derive(Default, Clone, Copy)]
 struct Count {
@@ -93,32 +92,24 @@ impl Tally {
         self.calls += calls.len() as u64;
         self.words += words.len() as u64;
         let mut vpu = Vpu::new();
-        let mut plane = vpu.plane().to_vec();
+        let mut seen = Seen::of(&vpu);
         for word in words {
-            self.feed(&mut vpu, word, &mut plane);
+            self.feed(&mut vpu, word, &mut seen);
         }
         self.begun_at_end += vpu.begun().is_some() as u64;
     }
 
-    /// Feeds one word; when it ends a command, counts the command. `plane` is the plane as last seen.
-    fn feed(&mut self, vpu: &mut Vpu, word: u32, plane: &mut [u8]) {
-        let begun = vpu.begun();
-        let opcode = begun.map_or((word >> 24) as u8, |(opcode, _, _)| opcode);
-        if let Some((opcode, _, 1)) = begun {
+    /// Feeds one word; when it ends a command, counts the command.
+    fn feed(&mut self, vpu: &mut Vpu, word: u32, seen: &mut Seen) {
+        if let Some((opcode, _, 1)) = vpu.begun() {
             self.look_ahead(vpu, opcode);
         }
         vpu.set_status(0);
-        vpu.feed(&[word]);
-        if vpu.begun().is_some() {
-            return;
-        }
+        let Some(opcode) = ended_by(vpu, word) else { return };
         let count = self.counts.entry(opcode).or_default();
         count.sent += 1;
         count.accepted += (vpu.status() == 0) as u64;
-        if vpu.plane() != &plane[..] {
-            count.changed += 1;
-            plane.copy_from_slice(vpu.plane());
-        }
+        count.changed += seen.changed(vpu) as u64;
         if DRAWS.contains(&opcode) {
             self.look_at_depths(vpu);
         }
