@@ -18,7 +18,7 @@ pub fn traps() -> Vec<Stored> {
     streams
 }
 
-/// Twice as bright as white: mode 1 multiplies by 2.5, mode 2 by 1, mode 0 by nothing and leaves the alpha. One that clamps
+/// Two and a half times as bright as white: mode 1 multiplies by 2.5, mode 2 by 1, mode 0 by nothing and leaves the alpha. One that clamps
 /// in mode 1, does not in mode 2, or lights mode 0, differs.
 fn too_bright(opcode: u8, name: &str, mode: u32) -> Stored {
     let grey = coloured(wide(0.5), 0xffff_ff90);
@@ -81,7 +81,8 @@ fn one_by_one() -> Stored {
     of_terms("trap-06-one-by-one", &[half, large])
 }
 
-/// 2^25 - 2^25 + 0 + 0.5 from the left; from the right the 0.5 is lost.
+/// The last light is 2^23 - 2^23 + 0 + 0.25 from the left; from the right the 0.25 is lost. The first two cancel, and the 0.5
+/// of the first goes with them.
 fn from_the_right() -> Stored {
     let terms = light(0, [33_554_432.0, 0.0, 0.0, 0.5], [0.0, 0.0, 4.0]);
     let back = light(1, [-33_554_432.0, 0.0, 0.0, 0.0], [0.0, 0.0, 4.0]);
@@ -102,16 +103,15 @@ fn of_terms(name: &str, lights: &[Command]) -> Stored {
         .end()
 }
 
-/// The light is behind the face, but half-way to the eye is before it: without the test that the face is lit at all there
-/// would be a highlight.
+/// The light is a little behind the face and the eye before it, so that half-way between them is before it too: without the
+/// test that the face is lit at all there would be a highlight.
 fn specular_behind() -> Stored {
     let mut triangle = coloured(wide(0.5), 0x8080_80ff);
-    triangle.iter_mut().for_each(|corner| corner.normal = [1.0, 0.0, 0.125]);
+    triangle.iter_mut().for_each(|corner| corner.normal = [-1.0, 0.0, 0.25]);
     let view = translation([2.0, 0.0, -1.0]);
-    let mut back = translation([-2.0, 0.0, 1.0]);
-    back[3] = -2.0;
+    let back = translation([-2.0, 0.0, 1.0]);
     Scene::new("trap-06-highlight-behind")
-        .all([Command::lighting(1), light(3, [0.1, 0.5, 1.0, 0.0], [1.75, 0.0, 3.0])])
+        .all([Command::lighting(1), light(3, [0.1, 0.5, 400.0, 0.0], [7.0, 0.0, 12.0])])
         .all([Command::matrix(1, &view), Command::matrix(2, &back), Command::shading_mode(1)])
         .shows(Command::transformed_with_normals(&triangle))
         .all([Command::matrix(1, &identity()), Command::matrix(2, &identity())])
