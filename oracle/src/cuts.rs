@@ -74,18 +74,33 @@ impl Cut {
     }
 
     pub fn apply(self, stream: &Stream, random: &mut Random) -> Vec<Vec<u32>> {
-        let mut places = self.places(stream, random);
-        places.push(stream.words.len());
-        places.sort();
-        let mut start = 0;
-        let mut calls = Vec::new();
-        for place in places {
-            let place = place.min(stream.words.len());
-            calls.push(stream.words[start..place].to_vec());
-            start = place;
-        }
-        calls
+        cut_at(stream, self.places(stream, random))
     }
+}
+
+fn cut_at(stream: &Stream, mut places: Vec<usize>) -> Vec<Vec<u32>> {
+    places.push(stream.words.len());
+    places.sort();
+    let mut start = 0;
+    let mut calls = Vec::new();
+    for place in places {
+        let place = place.min(stream.words.len());
+        calls.push(stream.words[start..place].to_vec());
+        start = place;
+    }
+    calls
+}
+
+/// At most `most` calls, cut in any way at some of its places; a third of the streams have an empty call.
+pub fn few_calls(stream: &Stream, most: usize, random: &mut Random) -> Vec<Vec<u32>> {
+    let mut places = random.pick(&Cut::ALL[1..7]).places(stream, random);
+    while places.len() + 2 > most {
+        places.swap_remove(random.below(places.len() as u32) as usize);
+    }
+    if random.chance(33) {
+        places.extend(places.first().copied().or(Some(0)));
+    }
+    cut_at(stream, places)
 }
 
 fn inside_payloads(stream: &Stream, random: &mut Random) -> Vec<usize> {

@@ -71,4 +71,10 @@ impl Digests {
             self.depth_f32.digest(&depth_f32_words(vpu), fnv_of_words),
         ]
     }
+
+    /// `STATUS PLANE DEPTH DEPTH_F32`, as `oracle run` prints it after each call.
+    pub fn line(&mut self, vpu: &Vpu) -> String {
+        let [plane, depth, depth_f32] = self.take(vpu);
+        format!("{:08x} {plane:016x} {depth:016x} {depth_f32:016x}", vpu.status())
+    }
 }

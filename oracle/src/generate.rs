@@ -3,6 +3,7 @@
 use crate::arguments::Arguments;
 use std::path::{Path, PathBuf};
 use vpu_oracle::cuts::Cut;
+use vpu_oracle::digests::little_endian;
 use vpu_oracle::profiles::{self, Profile};
 use vpu_oracle::random::Random;
 use vpu_oracle::streams::Stream;
@@ -41,7 +42,8 @@ pub fn recut(arguments: &Arguments) -> Result<(), String> {
 }
 
 fn write_calls(path: &Path, calls: &[Vec<u32>]) -> Result<(), String> {
-    std::fs::write(path, encode_calls(calls)).map_err(|error| format!("{}: {error}", path.display()))
+    std::fs::write(path, little_endian(&encode_calls(calls)))
+        .map_err(|error| format!("{}: {error}", path.display()))
 }
 
 fn inside(folder: &Path, profile: &Profile, seed: u64, index: u64) -> Result<PathBuf, String> {

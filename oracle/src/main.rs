@@ -2,6 +2,7 @@
 
 mod arguments;
 mod generate;
+mod replay_list;
 mod run;
 mod screen;
 mod share;
@@ -26,7 +27,9 @@ const USAGE: &str = "usage:
   oracle vertex-list
   oracle vertex-stdin
   oracle triangle-list
-  oracle triangle-stdin";
+  oracle triangle-stdin
+  oracle replay-list
+  oracle replay-streams";
 
 fn main() {
     let arguments: Vec<String> = std::env::args().skip(1).collect();
@@ -54,6 +57,8 @@ fn dispatch(arguments: &[String]) -> Result<(), String> {
         "vertex-stdin" => vertex::stdin(&rest),
         "triangle-list" => triangle::list(&rest),
         "triangle-stdin" => triangle::stdin(&rest),
+        "replay-list" => replay_list::list(&rest),
+        "replay-streams" => replay_list::streams(&rest),
         _ => Err(format!("no subcommand {subcommand:?}\n{USAGE}")),
     }
 }

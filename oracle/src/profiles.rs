@@ -25,7 +25,7 @@ const fn outside(profile: Profile) -> Profile {
 }
 
 #[rustfmt::skip]
-pub static PROFILES: [Profile; 20] = [
+pub static PROFILES: [Profile; 22] = [
     profile("clear", steps::clears, 14,
         "clears with every flag value, known or not, between draws"),
     profile("settings", steps::settings, 20,
@@ -64,6 +64,10 @@ pub static PROFILES: [Profile; 20] = [
         "steps of all the profiles above that stay inside the domain"),
     profile("largest", steps::largest, 1,
         "a 1024 by 1024 texture and a model of 18,724 triangles"),
+    profile("large", steps::large, 1,
+        "a 256 by 200 texture and a model of 700 triangles"),
+    profile("full", steps::full, 1,
+        "64 textures and 64 models, as many as the port holds, some of them sent again"),
     outside(profile("crowded", steps::crowded, 1,
         "70 textures and 70 models, more than the port holds")),
 ];

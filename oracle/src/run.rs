@@ -23,8 +23,7 @@ fn print_calls(vpu: &mut Vpu, calls: &[Vec<u32>]) -> std::io::Result<()> {
     let mut digests = Digests::default();
     for call in calls {
         vpu.feed(call);
-        let [plane, depth, depth_f32] = digests.take(vpu);
-        writeln!(out, "{:08x} {plane:016x} {depth:016x} {depth_f32:016x}", vpu.status())?;
+        writeln!(out, "{}", digests.line(vpu))?;
     }
     out.flush()
 }

@@ -3,9 +3,9 @@
 use crate::arguments::Arguments;
 use std::collections::BTreeMap;
 use vpu_oracle::original::Vpu;
-use vpu_oracle::profiles::{self, Profile};
-
-const DRAWS: [u8; 6] = [0x12, 0x14, 0x16, 0x18, 0x19, 0x1b];
+use vpu_oracle::profiles;
+use vpu_oracle::stored;
+use vpu_oracle::watch::{ended_by, Seen, DRAWS};
 
 #[derive(Default, Clone, Copy)]
 struct Count {
@@ -57,13 +57,16 @@ struct Tally {
 
 pub fn share(arguments: &Arguments) -> Result<(), String> {
     arguments.expect(0, &["profile", "seed", "count"])?;
-    let chosen = profiles::named(arguments.wanted("profile")?)?;
+    let profile = arguments.wanted("profile")?;
+    if profile == "stored" {
+        tallied("stored", stored::all().iter().map(|stream| stream.calls.clone()));
+        return Ok(());
+    }
+    let chosen = profiles::named(profile)?;
     let (seed, count) = (arguments.number("seed", 1)?, arguments.number("count", 10)?);
     let mut overall = Counts::new();
     for profile in chosen {
-        let mut tally = Tally::default();
-        (0..count).for_each(|index| tally.run(profile, seed, index));
-        tally.print(profile);
+        let tally = tallied(profile.name, (0..count).map(|index| profile.calls(seed, index)));
         for (opcode, count) in &tally.counts {
             overall.entry(*opcode).or_default().add(count);
         }
@@ -74,40 +77,39 @@ pub fn share(arguments: &Arguments) -> Result<(), String> {
     Ok(())
 }
 
+/// What these streams reach, counted and printed.
+fn tallied(name: &str, streams: impl Iterator<Item = Vec<Vec<u32>>>) -> Tally {
+    let mut tally = Tally::default();
+    streams.for_each(|calls| tally.run(calls));
+    tally.print(name);
+    tally
+}
+
 impl Tally {
-    fn run(&mut self, profile: &Profile, seed: u64, index: u64) {
-        let calls = profile.calls(seed, index);
+    fn run(&mut self, calls: Vec<Vec<u32>>) {
         let words = calls.concat();
         self.streams += 1;
         self.calls += calls.len() as u64;
         self.words += words.len() as u64;
         let mut vpu = Vpu::new();
-        let mut plane = vpu.plane().to_vec();
+        let mut seen = Seen::of(&vpu);
         for word in words {
-            self.feed(&mut vpu, word, &mut plane);
+            self.feed(&mut vpu, word, &mut seen);
         }
         self.begun_at_end += vpu.begun().is_some() as u64;
     }
 
-    /// Feeds one word; when it ends a command, counts the command. `plane` is the plane as last seen.
-    fn feed(&mut self, vpu: &mut Vpu, word: u32, plane: &mut [u8]) {
-        let begun = vpu.begun();
-        let opcode = begun.map_or((word >> 24) as u8, |(opcode, _, _)| opcode);
-        if let Some((opcode, _, 1)) = begun {
+    /// Feeds one word; when it ends a command, counts the command.
+    fn feed(&mut self, vpu: &mut Vpu, word: u32, seen: &mut Seen) {
+        if let Some((opcode, _, 1)) = vpu.begun() {
             self.look_ahead(vpu, opcode);
         }
         vpu.set_status(0);
-        vpu.feed(&[word]);
-        if vpu.begun().is_some() {
-            return;
-        }
+        let Some(opcode) = ended_by(vpu, word) else { return };
         let count = self.counts.entry(opcode).or_default();
         count.sent += 1;
         count.accepted += (vpu.status() == 0) as u64;
-        if vpu.plane() != &plane[..] {
-            count.changed += 1;
-            plane.copy_from_slice(vpu.plane());
-        }
+        count.changed += seen.changed(vpu) as u64;
         if DRAWS.contains(&opcode) {
             self.look_at_depths(vpu);
         }
@@ -133,10 +135,10 @@ impl Tally {
         }
     }
 
-    fn print(&self, profile: &Profile) {
+    fn print(&self, name: &str) {
         println!(
             "{}: {} streams, {} calls, {} words; {} end inside a command; {} flat triangles beyond 8192",
-            profile.name, self.streams, self.calls, self.words, self.begun_at_end, self.flat_beyond
+            name, self.streams, self.calls, self.words, self.begun_at_end, self.flat_beyond
         );
         println!(
             "  stores: at most {} words for {} textures, {} words for {} models",

@@ -8,9 +8,9 @@ mod uploads;
 
 pub use faults::{broken_end, cuts, damaged, framing};
 pub use flat::{flat, flat_beyond, flat_sides};
-pub use odd_floats::{extremes, specials};
-pub use triangles::{clipping, matrices, textured, transformed};
-pub use uploads::{crowded, largest, models, numbers, uploads};
+pub use odd_floats::{extremes, specials, NAN_DEPTH};
+pub use triangles::{clipping, matrices, textured, transformed, unusual_matrices};
+pub use uploads::{crowded, full, large, largest, models, numbers, uploads};
 
 use crate::maker::Maker;
 use crate::streams::Command;

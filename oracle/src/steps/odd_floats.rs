@@ -47,7 +47,7 @@ fn tiny_normals(maker: &mut Maker, triangle: &mut Triangle) {
 
 /// Positions with which the original stores a NaN as depth: clipping leaves corners so far out that the area and
 /// the weights overflow.
-const NAN_DEPTH: [[[u32; 3]; 3]; 5] = [
+pub const NAN_DEPTH: [[[u32; 3]; 3]; 5] = [
     [
         [0x74a7_ab58, 0x7407_1872, 0x3dca_96b0],
         [0xfb9e_fdcd, 0xfd53_33f5, 0x3e8b_a16c],

@@ -125,12 +125,16 @@ fn odd_matrices(maker: &mut Maker) -> [floats::Matrix; 3] {
     matrices
 }
 
-pub fn matrices(maker: &mut Maker) {
-    let mode = Command::shading_mode(maker.random.below(2));
-    maker.send(mode);
+pub fn unusual_matrices(maker: &mut Maker) {
     maker.set_camera(Camera::Fresh);
     let matrices = if maker.random.chance(65) { undoing_matrices(maker) } else { odd_matrices(maker) };
     maker.set_matrices(matrices);
+}
+
+pub fn matrices(maker: &mut Maker) {
+    let mode = Command::shading_mode(maker.random.below(2));
+    maker.send(mode);
+    unusual_matrices(maker);
     let triangle = maker.triangle_of_size(0.8);
     let command = maker.draw_of(&triangle);
     maker.send(command);

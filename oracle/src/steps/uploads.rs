@@ -93,11 +93,11 @@ pub fn numbers(maker: &mut Maker) {
     }
 }
 
-/// The largest texture and the largest model that one command can carry.
-pub fn largest(maker: &mut Maker) {
+/// A texture and a model of many small triangles, drawn in each mode.
+fn large_uploads(maker: &mut Maker, width: u32, height: u32, triangles: u32) {
     maker.set_camera(Camera::Orthographic);
-    maker.upload_texture(1, 1024, 1024);
-    let records: Vec<(u32, Triangle)> = (0..18_724).map(|_| (1, maker.triangle_of_size(0.02))).collect();
+    maker.upload_texture(1, width, height);
+    let records: Vec<(u32, Triangle)> = (0..triangles).map(|_| (1, maker.triangle_of_size(0.02))).collect();
     maker.send(Command::model(2, &records));
     for mode in 0..3 {
         maker.refresh();
@@ -107,15 +107,41 @@ pub fn largest(maker: &mut Maker) {
     }
 }
 
+/// The largest texture and the largest model that one command can carry.
+pub fn largest(maker: &mut Maker) {
+    large_uploads(maker, 1024, 1024, 18_724);
+}
+
+pub fn large(maker: &mut Maker) {
+    large_uploads(maker, 256, 200, 700);
+}
+
+fn upload_and_draw(maker: &mut Maker, number: u32) {
+    maker.upload_texture(number, 1 + number % 3, 2);
+    maker.upload_model(number, 1);
+    let triangle = maker.triangle_of_size(0.3);
+    maker.send(Command::textured(number, 0, &triangle));
+    if number % 8 == 0 {
+        maker.refresh();
+    }
+}
+
 /// More than 64 numbers of each kind are held at the end.
 pub fn crowded(maker: &mut Maker) {
-    for number in 0..70 {
-        maker.upload_texture(number, 1 + number % 3, 2);
-        maker.upload_model(number, 1);
+    (0..70).for_each(|number| upload_and_draw(maker, number));
+}
+
+/// No 65th number is asked for, but some come again.
+pub fn full(maker: &mut Maker) {
+    (0..64).for_each(|number| upload_and_draw(maker, number));
+    for _ in 0..12 {
+        let number = maker.random.below(64);
+        maker.upload_small_texture(number);
+        maker.upload_model(63 - number, 2);
+        maker.refresh();
         let triangle = maker.triangle_of_size(0.3);
-        maker.send(Command::textured(number, 0, &triangle));
-        if number % 8 == 0 {
-            maker.refresh();
-        }
+        maker.send(Command::textured_lit(number, 1, &triangle));
+        maker.send(Command::draw_model(63 - number, 2));
+        maker.send_draws(2);
     }
 }

@@ -1,0 +1,188 @@
+//! Feeds streams to the port and to the original, in one process, and compares answer, status, plane and both depths
+//! after each call, every NaN as one value. Linked with the archive of the crate `vpu_c`; `oracle/streams` builds it.
+//!   streams --profile P|all [--count N] [--seed S] [--out FILE]
+//!   streams --singles N [--seed S] [--out FILE]
+//!   streams time
+
+#[allow(dead_code)]
+mod arguments;
+#[path = "beside/port.rs"]
+mod port;
+#[path = "beside/sides.rs"]
+mod sides;
+#[path = "beside/timing.rs"]
+mod timing;
+
+use arguments::Arguments;
+use sides::{smallest, Sides};
+use vpu_oracle::digests::little_endian;
+use vpu_oracle::profiles::{self, Profile};
+use vpu_oracle::random::Random;
+use vpu_oracle::singles::{single, KINDS};
+use vpu_oracle::watch::Watch;
+use vpu_oracle::words::encode_calls;
+
+/// Enough for the profile `largest`, whose old upload counts beside the new one.
+const STREAM_STORE: usize = 1_200_000;
+const SINGLE_STORE: usize = 65_536;
+
+/// Single draws on the same machine, at most.
+const BATCH: usize = 16;
+
+/// What was seen to differ, and the shortest stream that shows it.
+#[derive(Default)]
+struct Differences {
+    count: u64,
+    shortest: Vec<Vec<u32>>,
+    text: String,
+}
+
+impl Differences {
+    /// `calls` are those from the reset to the difference.
+    fn add(&mut self, calls: &[Vec<u32>], store: usize, what: String) {
+        self.count += 1;
+        if self.count > 20 {
+            return;
+        }
+        let calls = smallest(calls, store);
+        if self.count == 1 || encode_calls(&calls).len() < encode_calls(&self.shortest).len() {
+            self.shortest = calls;
+            self.text = what;
+        }
+    }
+
+    /// Whether there was none; the shortest stream goes to the file.
+    fn report(&self, file: &str) -> Result<bool, String> {
+        if self.count > 0 {
+            let bytes = little_endian(&encode_calls(&self.shortest));
+            std::fs::write(file, bytes).map_err(|error| format!("{file}: {error}"))?;
+            println!("  {}\n  a stream that shows a difference: {file}", self.text);
+        }
+        Ok(self.count == 0)
+    }
+}
+
+/// Feeds one stream; the first difference ends it.
+fn compare_stream(calls: &[Vec<u32>], watch: &mut Watch, differences: &mut Differences) {
+    let mut sides = Sides::new(STREAM_STORE);
+    for (place, call) in calls.iter().enumerate() {
+        let last = place + 1 == calls.len();
+        let what = sides.feed(call, watch).or_else(|| sides.wrong_pixel().filter(|_| last));
+        if let Some(what) = what {
+            return differences.add(&calls[..=place], STREAM_STORE, what);
+        }
+    }
+}
+
+fn compare_profile(profile: &Profile, seed: u64, count: u64, file: &str) -> Result<bool, String> {
+    let (mut watch, mut differences) = (Watch::default(), Differences::default());
+    for index in 0..count {
+        compare_stream(&profile.calls(seed, index), &mut watch, &mut differences);
+    }
+    let Watch { commands, draws, changed } = watch;
+    print!("{:12} {count:6} streams, {commands:8} commands, {draws:8} draws, ", profile.name);
+    println!("{changed:8} changed a pixel, {} differences", differences.count);
+    differences.report(file)
+}
+
+fn compare_profiles(arguments: &Arguments, file: &str) -> Result<bool, String> {
+    let name = arguments.wanted("profile")?;
+    let (seed, count) = (arguments.number("seed", 1)?, arguments.number("count", 10)?);
+    let inside: Vec<_> = profiles::named(name)?.into_iter().filter(|profile| profile.inside_domain).collect();
+    if inside.is_empty() {
+        return Err(format!("{name} leaves the domain of the comparison"));
+    }
+    let mut agreed = true;
+    for profile in inside {
+        agreed &= compare_profile(profile, seed, count, file)?;
+    }
+    Ok(agreed)
+}
+
+/// How many single draws of each kind there were, and how many changed a pixel.
+#[derive(Default)]
+struct Kinds([[u64; 2]; KINDS.len()]);
+
+impl Kinds {
+    fn add(&mut self, opcode: u8, changed: bool) {
+        let place = KINDS.iter().position(|kind| *kind == opcode).unwrap_or(0);
+        self.0[place][0] += 1;
+        self.0[place][1] += changed as u64;
+    }
+
+    /// Whether more than half of all changed a pixel.
+    fn print(&self) -> bool {
+        for (opcode, [draws, changed]) in KINDS.iter().zip(self.0) {
+            println!("{opcode:02x} {draws:9} draws, {changed:9} changed a pixel");
+        }
+        let [draws, changed] = self.0.iter().fold([0, 0], |sum, kind| [sum[0] + kind[0], sum[1] + kind[1]]);
+        let share = 100.0 * changed as f64 / draws.max(1) as f64;
+        println!("all {draws} single draws, {changed} changed a pixel, {share:.1} %");
+        changed * 2 > draws
+    }
+}
+
+/// The clear before a draw on a machine that was used before.
+const CLEAR: [u32; 4] = [0x0400_0003, 3, 0x1357_9b00, 0];
+
+/// Feeds the settings and then the draw, after which both sides are compared; what differs, and whether the plane changed.
+fn compare_single(sides: &mut Sides, settings: &[u32], draw: &[u32]) -> (Option<String>, bool) {
+    let watch = &mut Watch::default();
+    let answer = sides.prepare(settings, watch);
+    let before = sides.original.plane().to_vec();
+    let what = answer.or_else(|| sides.feed(draw, watch)).or_else(|| sides.wrong_pixel());
+    (what, before != sides.original.plane())
+}
+
+fn compare_singles(arguments: &Arguments, file: &str) -> Result<bool, String> {
+    let (count, seed) = (arguments.number("singles", 0)?, arguments.number("seed", 1)?);
+    let (mut kinds, mut differences) = (Kinds::default(), Differences::default());
+    let mut random = Random::named("machines", seed, 0);
+    let (mut sides, mut calls) = (Sides::new(SINGLE_STORE), Vec::new());
+    for index in 0..count {
+        let single = single(seed, index);
+        if calls.len() >= 2 * BATCH || random.chance(50) {
+            sides.reset();
+            calls.clear();
+        }
+        let clear = if calls.is_empty() { &[][..] } else { &CLEAR };
+        calls.extend([[clear, &single.settings].concat(), single.draw]);
+        let [.., settings, draw] = &calls[..] else { continue };
+        let (what, changed) = compare_single(&mut sides, settings, draw);
+        kinds.add(single.opcode, changed);
+        if let Some(what) = what {
+            differences.add(&calls, SINGLE_STORE, what);
+            sides.reset();
+            calls.clear();
+        }
+    }
+    let enough = kinds.print();
+    println!("{} differences", differences.count);
+    Ok(differences.report(file)? && enough)
+}
+
+fn run() -> Result<bool, String> {
+    let texts: Vec<String> = std::env::args().skip(1).collect();
+    if texts == ["time"] {
+        timing::run();
+        return Ok(true);
+    }
+    let arguments = Arguments::parse(&texts)?;
+    arguments.expect(0, &["profile", "count", "seed", "singles", "out"])?;
+    let file = arguments.wanted("out")?;
+    if arguments.option("singles").is_some() {
+        compare_singles(&arguments, file)
+    } else {
+        compare_profiles(&arguments, file)
+    }
+}
+
+fn main() {
+    match run() {
+        Ok(agreed) => std::process::exit(!agreed as i32),
+        Err(message) => {
+            eprintln!("streams: {message}");
+            std::process::exit(1);
+        }
+    }
+}
