@@ -1,0 +1,58 @@
+-- Every index lies below 8, and the loop ends after eight turns. Assumes nothing.
+use Prim.Native.Nat.{_-_, _≤_}
+use borrow.Author.Needs.{needs}
+use Rattle.vpu_c.proofs.plain.lights_in.Statement.{statement}
+use Rattle.vpu_c.proofs.plain.lights_in.Tie as tie
+
+abbrev Inv-loop : tie.InvT-loop
+Inv-loop lights out₀ i₀ out i = i ≤ 8
+
+abbrev μ-loop : tie.MeasureT-loop
+μ-loop lights out₀ i₀ out i = 8 - i
+
+loop-holds : tie.Need-loop-holds Inv-loop μ-loop
+loop-holds c = search needs
+
+mul-light-in : tie.Need-mul-light-in Inv-loop μ-loop
+mul-light-in c = search needs
+
+array-copy-out-light-in : tie.Need-array-copy-out-light-in Inv-loop μ-loop
+array-copy-out-light-in c = search needs
+
+light-in-requires : tie.Need-light-in-requires Inv-loop μ-loop
+light-in-requires c κs = search needs
+
+mul-out : tie.Need-mul-out Inv-loop μ-loop
+mul-out c = search needs
+
+array-set-from-out : tie.Need-array-set-from-out Inv-loop μ-loop
+array-set-from-out c = search needs
+
+add-i : tie.Need-add-i Inv-loop μ-loop
+add-i c = search needs
+
+loop-less : tie.Need-loop-less Inv-loop μ-loop
+loop-less c = search needs
+
+loop-again : tie.Need-loop-again Inv-loop μ-loop
+loop-again c = search needs
+
+returns : tie.Need-returns Inv-loop μ-loop
+returns c = search needs
+
+pub lights-in-spec : {M : Type 1} → statement M
+lights-in-spec =
+    tie.close
+    (tie.spec
+    Inv-loop
+    μ-loop
+    loop-holds
+    mul-light-in
+    array-copy-out-light-in
+    light-in-requires
+    mul-out
+    array-set-from-out
+    add-i
+    loop-less
+    loop-again
+    returns)

@@ -1,0 +1,66 @@
+-- Every index lies below 8, and the loop ends after seven turns. Assumes nothing.
+use Prim.Native.Nat.{_-_, _≤_}
+use borrow.Author.Needs.{needs}
+use Rattle.vpu_c.proofs.plain.lights_out.Statement.{statement}
+use Rattle.vpu_c.proofs.plain.lights_out.Tie as tie
+
+abbrev Inv-loop : tie.InvT-loop
+Inv-loop lights out₀ i₀ out i = i ≤ 8
+
+abbrev μ-loop : tie.MeasureT-loop
+μ-loop lights out₀ i₀ out i = 8 - i
+
+array-copy-out-light-out : tie.Need-array-copy-out-light-out Inv-loop μ-loop
+array-copy-out-light-out c = search needs
+
+light-out-requires : tie.Need-light-out-requires Inv-loop μ-loop
+light-out-requires c κs = search needs
+
+loop-holds : tie.Need-loop-holds Inv-loop μ-loop
+loop-holds c = search needs
+
+mul-light-out : tie.Need-mul-light-out Inv-loop μ-loop
+mul-light-out c = search needs
+
+array-copy-out-light-out-2 : tie.Need-array-copy-out-light-out-2 Inv-loop μ-loop
+array-copy-out-light-out-2 c = search needs
+
+light-out-requires-2 : tie.Need-light-out-requires-2 Inv-loop μ-loop
+light-out-requires-2 c κs = search needs
+
+mul-out : tie.Need-mul-out Inv-loop μ-loop
+mul-out c = search needs
+
+array-set-from-out : tie.Need-array-set-from-out Inv-loop μ-loop
+array-set-from-out c = search needs
+
+add-i : tie.Need-add-i Inv-loop μ-loop
+add-i c = search needs
+
+loop-less : tie.Need-loop-less Inv-loop μ-loop
+loop-less c = search needs
+
+loop-again : tie.Need-loop-again Inv-loop μ-loop
+loop-again c = search needs
+
+returns : tie.Need-returns Inv-loop μ-loop
+returns c = search needs
+
+pub lights-out-spec : {M : Type 1} → statement M
+lights-out-spec =
+    tie.close
+    (tie.spec
+    Inv-loop
+    μ-loop
+    array-copy-out-light-out
+    light-out-requires
+    loop-holds
+    mul-light-out
+    array-copy-out-light-out-2
+    light-out-requires-2
+    mul-out
+    array-set-from-out
+    add-i
+    loop-less
+    loop-again
+    returns)

@@ -1,0 +1,50 @@
+-- Every index lies below 64, and the loop ends after at most 64 turns. Assumes nothing.
+use Prim.Native.Nat.{_-_, _≤_}
+use borrow.Author.Needs.{needs}
+use Rattle.vpu_c.proofs.plain.slots_ok.Statement.{statement}
+use Rattle.vpu_c.proofs.plain.slots_ok.Tie as tie
+
+abbrev Inv-loop : tie.InvT-loop
+Inv-loop slots i₀ i = i ≤ 64
+
+abbrev μ-loop : tie.MeasureT-loop
+μ-loop slots i₀ i = 64 - i
+
+loop-holds : tie.Need-loop-holds Inv-loop μ-loop
+loop-holds c = search needs
+
+mul-s : tie.Need-mul-s Inv-loop μ-loop
+mul-s c = search needs
+
+array-copy-out-s : tie.Need-array-copy-out-s Inv-loop μ-loop
+array-copy-out-s c = search needs
+
+returns : tie.Need-returns Inv-loop μ-loop
+returns c = search needs
+
+add-i : tie.Need-add-i Inv-loop μ-loop
+add-i c = search needs
+
+loop-less : tie.Need-loop-less Inv-loop μ-loop
+loop-less c = search needs
+
+loop-again : tie.Need-loop-again Inv-loop μ-loop
+loop-again c = search needs
+
+returns-2 : tie.Need-returns-2 Inv-loop μ-loop
+returns-2 c = search needs
+
+pub slots-ok-spec : {M : Type 1} → statement M
+slots-ok-spec =
+    tie.close
+    (tie.spec
+    Inv-loop
+    μ-loop
+    loop-holds
+    mul-s
+    array-copy-out-s
+    returns
+    add-i
+    loop-less
+    loop-again
+    returns-2)

@@ -1,0 +1,219 @@
+// The state as plain data: switches are bytes.
+use light::Light;
+use settings::Settings;
+use state::State;
+use store::SLOTS;
+use store::Slot;
+
+#[repr(C)]
+pub struct VpuLight {
+    pub enabled: u8,
+    pub ambient: [f32; 3],
+    pub diffuse: [f32; 3],
+    pub specular: [f32; 3],
+    pub emission: [f32; 3],
+    pub position: [f32; 3],
+}
+
+#[repr(C)]
+pub struct VpuSlot {
+    pub held: u8,
+    pub number: u32,
+    pub width: u32,
+    pub height: u32,
+    pub start: u32,
+}
+
+#[repr(C)]
+pub struct VpuState {
+    pub matrices: [f32; 48],
+    pub shading_mode: u32,
+    pub lighting_enabled: u8,
+    pub lights: [VpuLight; 8],
+    pub textures: [VpuSlot; 64],
+    pub models: [VpuSlot; 64],
+    pub opcode: u32,
+    pub gathered: u32,
+    pub wanted: u32,
+    pub status: u32,
+}
+
+fn switch_of(b: bool) -> u8 {
+    if b { 1 } else { 0 }
+}
+
+fn light_in(l: VpuLight) -> Light {
+    let ambient = l.ambient;
+    let diffuse = l.diffuse;
+    let specular = l.specular;
+    let emission = l.emission;
+    let position = l.position;
+    Light {
+        enabled: l.enabled != 0,
+        ambient,
+        diffuse,
+        specular,
+        emission,
+        position,
+    }
+}
+
+fn light_out(l: Light) -> VpuLight {
+    let ambient = l.ambient;
+    let diffuse = l.diffuse;
+    let specular = l.specular;
+    let emission = l.emission;
+    let position = l.position;
+    VpuLight {
+        enabled: switch_of(l.enabled),
+        ambient,
+        diffuse,
+        specular,
+        emission,
+        position,
+    }
+}
+
+fn slot_in(s: VpuSlot) -> Slot {
+    Slot {
+        held: s.held != 0,
+        number: s.number,
+        width: s.width,
+        height: s.height,
+        start: s.start,
+    }
+}
+
+fn slot_out(s: Slot) -> VpuSlot {
+    VpuSlot {
+        held: switch_of(s.held),
+        number: s.number,
+        width: s.width,
+        height: s.height,
+        start: s.start,
+    }
+}
+
+fn lights_in(lights: [VpuLight; 8]) -> [Light; 8] {
+    let mut out = [Light::DISABLED; 8];
+    let mut i: usize = 0;
+    while i < 8 {
+        out[i] = light_in(lights[i]);
+        i += 1;
+    }
+    out
+}
+
+fn lights_out(lights: [Light; 8]) -> [VpuLight; 8] {
+    let first = light_out(lights[0]);
+    let mut out = [first; 8];
+    let mut i: usize = 1;
+    while i < 8 {
+        out[i] = light_out(lights[i]);
+        i += 1;
+    }
+    out
+}
+
+fn slots_in(slots: [VpuSlot; 64]) -> [Slot; SLOTS] {
+    let mut out = [Slot::UNUSED; SLOTS];
+    let mut i: usize = 0;
+    while i < SLOTS {
+        out[i] = slot_in(slots[i]);
+        i += 1;
+    }
+    out
+}
+
+fn slots_out(slots: [Slot; SLOTS]) -> [VpuSlot; 64] {
+    let first = slot_out(slots[0]);
+    let mut out = [first; 64];
+    let mut i: usize = 1;
+    while i < SLOTS {
+        out[i] = slot_out(slots[i]);
+        i += 1;
+    }
+    out
+}
+
+pub fn state_in(s: VpuState) -> State {
+    let matrices = s.matrices;
+    let lights = s.lights;
+    let textures = s.textures;
+    let models = s.models;
+    State {
+        settings: Settings {
+            matrices,
+            shading_mode: s.shading_mode,
+            lighting_enabled: s.lighting_enabled != 0,
+            lights: lights_in(lights),
+        },
+        textures: slots_in(textures),
+        models: slots_in(models),
+        opcode: s.opcode,
+        gathered: s.gathered,
+        wanted: s.wanted,
+        status: s.status,
+    }
+}
+
+pub fn state_out(s: State) -> VpuState {
+    let set = s.settings;
+    let matrices = set.matrices;
+    let lights = set.lights;
+    let textures = s.textures;
+    let models = s.models;
+    VpuState {
+        matrices,
+        shading_mode: set.shading_mode,
+        lighting_enabled: switch_of(set.lighting_enabled),
+        lights: lights_out(lights),
+        textures: slots_out(textures),
+        models: slots_out(models),
+        opcode: s.opcode,
+        gathered: s.gathered,
+        wanted: s.wanted,
+        status: s.status,
+    }
+}
+
+fn lights_ok(lights: [VpuLight; 8]) -> bool {
+    let mut i: usize = 0;
+    while i < 8 {
+        let l = lights[i];
+        if l.enabled > 1 {
+            return false;
+        }
+        i += 1;
+    }
+    true
+}
+
+fn slots_ok(slots: [VpuSlot; 64]) -> bool {
+    let mut i: usize = 0;
+    while i < 64 {
+        let s = slots[i];
+        if s.held > 1 {
+            return false;
+        }
+        i += 1;
+    }
+    true
+}
+
+// Is each switch 0 or 1?
+pub fn switches_ok(s: VpuState) -> bool {
+    if s.lighting_enabled > 1 {
+        return false;
+    }
+    let lights = s.lights;
+    if !lights_ok(lights) {
+        return false;
+    }
+    let textures = s.textures;
+    if !slots_ok(textures) {
+        return false;
+    }
+    let models = s.models;
+    slots_ok(models)
+}
