@@ -7,6 +7,7 @@ use lib.IntN.{ℤ, natAbs}
 use lib.ListN.{getD}
 use mir.Syntax.{w32}
 use mir.Val.{toZ}
+use Rattle.verdict.specs.Verdict.{whenDone}
 use Rattle.verdict.specs.declared.Reason.the-variants.{OutOfRange}
 use Rattle.verdict.specs.declared.Verdict.{Verdict}
 use Rattle.verdict.specs.declared.Verdict.the-variants.{Done, Refused}
@@ -52,11 +53,6 @@ firstOut p (k ∷ ks) = cond (inReach (signedAt p k)) (firstOut p ks) (Refused O
 -- the coordinates, in payload order
 unfoldable pub flatVerdict : List ℕ → Verdict
 flatVerdict p = firstOut p (0 ∷ 1 ∷ 3 ∷ 4 ∷ 6 ∷ 7 ∷ [])
-
--- what a command leaves: the first where it is done, the second where it is refused
-abbrev pub whenDone : {A : Type 0} → Verdict → A → A → A
-whenDone Done a b = a
-whenDone (Refused reason index) a b = b
 
 unfoldable pub flatDepths : List ℕ → List ℤ → List ℤ
 flatDepths p D = whenDone (flatVerdict p) (triDepths (triOf p) D) D

@@ -7,19 +7,10 @@ use lib.Dec.{leb}
 use lib.Ieee.{Float, binary32, ofBits}
 use lib.Ieee.Scale.{finite}
 use Rattle.ieee.specs.Number.{unitOf}
+pub use Rattle.verdict.specs.Verdict.{andThen, whenDone}
 use Rattle.verdict.specs.declared.Reason.the-variants.{OutOfRange, NotFinite}
 use Rattle.verdict.specs.declared.Verdict.{Verdict}
 use Rattle.verdict.specs.declared.Verdict.the-variants.{Done, Refused}
-
--- one check, and where it finds nothing the next
-abbrev pub andThen : Verdict → Verdict → Verdict
-andThen Done v = v
-andThen (Refused reason index) v = Refused reason index
-
--- what a command leaves: the first where it is done, the second where it is refused
-abbrev pub whenDone : {A : Type 0} → Verdict → A → A → A
-whenDone Done a b = a
-whenDone (Refused reason index) a b = b
 
 -- `p[i]`, and `f32::from_bits(p[i])`
 abbrev pub wordAt : List ℕ → ℕ → ℕ

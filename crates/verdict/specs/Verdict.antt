@@ -27,3 +27,13 @@ bitFor n = cond (eqb n 1) 4 (cond (leb n 8) 8 64)
 abbrev pub bitsOf : Verdict → ℕ
 bitsOf Done = 0
 bitsOf (Refused r i) = bitFor (numberOf r)
+
+-- one check, and where it finds nothing the next
+abbrev pub andThen : Verdict → Verdict → Verdict
+andThen Done v = v
+andThen (Refused reason index) v = Refused reason index
+
+-- what a command leaves: the first where it is done, the second where it is refused
+abbrev pub whenDone : {A : Type 0} → Verdict → A → A → A
+whenDone Done a b = a
+whenDone (Refused reason index) a b = b
