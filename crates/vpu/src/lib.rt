@@ -30,7 +30,7 @@ pub struct Fed {
 }
 
 // Are the lent memories as long as they have to be?
-fn lengths_ok(
+pub fn lengths_ok(
     plane: usize,
     depth: usize,
     depth_f32: usize,
