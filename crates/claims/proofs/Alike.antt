@@ -17,11 +17,10 @@ use Rattle.store.specs.declared.Room.{Room}
 use Rattle.store.specs.declared.Room.the-variants.{Fits, NoSlot, NoWords}
 use Rattle.store.specs.Slots.{isFits}
 use Rattle.state.specs.State.{mostPayload}
-use Rattle.execute.specs.Paints.{Picture, paintsOn}
 use Rattle.execute.specs.Commands.{Load, Told, told}
 use Rattle.execute.specs.Control.{Keep, Control, Step, Seen, verdictOf, keptOf, ended, execute}
 use Rattle.execute.proofs.Formed.{Passed, load-passed}
-use Rattle.vpu.specs.Framing.{still, dropped, begun, header, taken, gather, word, wordOn, run}
+use Rattle.vpu.specs.Framing.{dropped, begun, header, taken, gather, word, wordOn, run}
 
 -- K and P answer alike on what `Rel` relates, and keep it related. `Passed`: what the checks of an upload's command leave
 pub record Alike {X Y : Type 0} (K : Keep X) (P : Keep Y) (Rel : X → Y → Type 0) : Type 0 where

@@ -1,7 +1,6 @@
 -- Slots over lent words with a command area answer as the whole history does: `Alike asBox (asPast size)`. Assumes nothing.
 use Prim.Native.Nat.{ℕ, _<_}
 use mathlib.Core.Path.{_≡_, refl, ap, _∙_}
-use mathlib.Core.Option.{some}
 use mathlib.Core.List.{List, [], _∷_, _++_}
 use native.Mathlib.Omega.{arith}
 use native.Mathlib.Numerals.{add-one}
@@ -14,7 +13,6 @@ use Rattle.store.specs.Uploads.{Whole, card, cards, live, room}
 use Rattle.store.proofs.Held.{Sized}
 use Rattle.store.proofs.Kept.{Keeps, keeps-look, keeps-room, keeps-put}
 use Rattle.state.specs.State.{mostPayload}
-use Rattle.execute.specs.Commands.{Load}
 use Rattle.execute.specs.Kept.{Box, roomOn, shelfOf, putBox, asBox}
 use Rattle.claims.specs.Plain.{Past, history, accepted, asPast}
 use Rattle.claims.proofs.Alike.{Alike}
