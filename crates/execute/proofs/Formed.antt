@@ -70,7 +70,7 @@ module _ (P : Settings → Type 0) (s : Settings) (p : List ℕ) (old : P s)
       (either Tells (loads op) _ _ (either Tells (eqb op 0x17) (loading (textureVerdict p) s (textureIn p)) (loading (countVerdict p) s (modelIn p)) old old) old)
 
 -- ---- what is to be kept passed its checks
-abbrev Passed : Option Load → Type 0
+abbrev pub Passed : Option Load → Type 0
 Passed none = Unit {0}
 Passed (some l) = Sized (l .kind) (card (l .whole))
 
@@ -79,7 +79,7 @@ when-passed Done l h = h refl
 when-passed (Refused reason index) l h = tt
 
 module _ (s : Settings) (p : List ℕ) (most : length p ≤ mostPayload) (op : ℕ) where
-  abbrev Loads : Told → Type 0
+  abbrev pub Loads : Told → Type 0
   Loads t = Passed (t .load)
 
   texture-passed : Loads (loading (textureVerdict p) s (textureIn p))
@@ -96,7 +96,7 @@ module _ (s : Settings) (p : List ℕ) (most : length p ≤ mostPayload) (op : �
       let q = count-passes p most e in
       record { sides = q .sides; size = q .size })
 
-  load-passed : (look : Look) → Loads (told look s op p)
+  pub load-passed : (look : Look) → Loads (told look s op p)
   unfolding told loadTold
   load-passed look =
       either Loads (sets op) (toldOf (settingsAfter s op p)) _ tt

@@ -1,0 +1,158 @@
+-- Which reasons a command's checks give: what holds of "done" and of each of the first eight reasons holds of every verdict but a full store's. Assumes nothing.
+use Prim.Native.Nat.{ℕ, zero, suc, _+_}
+use mathlib.Core.Bool.{Bool, true, false, cond}
+use mathlib.Core.Option.{Option, none, some}
+use mathlib.Core.List.{List, [], _∷_}
+use lib.Dec.{eqb, leb, ltb}
+use lib.Ieee.{Float}
+use lib.Ieee.Scale.{finite}
+use lib.ListN.{length, drop}
+use Rattle.vector.specs.declared.normal.Inverse.{Inverse}
+use Rattle.vector.specs.declared.normal.Inverse.the-variants.{Of, Singular}
+use Rattle.clip.specs.declared.vertex.ClipVertex.{ClipVertex}
+use Rattle.verdict.specs.declared.Reason.the-variants.{UnknownOpcode, OutOfRange, NotFinite, NotHeld, NotInvertible}
+use Rattle.verdict.specs.declared.Verdict.{Verdict}
+use Rattle.verdict.specs.declared.Verdict.the-variants.{Done, Refused}
+use Rattle.payload.specs.Words.{andThen, wordAt, floatAt, atMost, finiteFrom}
+use Rattle.settings.specs.declared.Settings.{Settings}
+use Rattle.settings.specs.declared.Changed.{Changed}
+use Rattle.settings.specs.Settings.{changed, modeVerdict, withMode, matrixVerdict, withMatrix, lightVerdict, withLight}
+use Rattle.store.specs.Uploads.{Whole}
+use Rattle.flat.specs.Words.{signedAt, inReach, firstOut, flatVerdict}
+use Rattle.decide.specs.Corners.{colorAt, firstOf, corner, normalMatrixOf, cornersOf}
+use Rattle.decide.specs.Verdicts.{invertibleOf, heldOf, finite4, reachedOf, eachOf, inputsOf, plainVertex, plainOf, transformedBy, transformedVerdict, texturedBy, checkedVerdict, texturedVerdict, triangleOf, recordsVerdict}
+use Rattle.draw.specs.Draws.{modelVerdict}
+use Rattle.execute.specs.Commands.{Look, Told, Painted, Stroked, wrongLength, sets, settingsAfter, loads, textureVerdict, countVerdict, loading, textureIn, modelIn, loadTold, clearPainted, flatPainted, transformedStroked, texturedStroked, modelStroked, floatsBy, asPaints, paintedBy, toldBy, toldOf, told}
+
+-- what holds in both cases of a test
+either : {A : Type 0} (R : A → Type 0) (b : Bool) (x y : A) → R x → R y → R (cond b x y)
+either R true x y p q = p
+either R false x y p q = q
+
+module _ (Q : Verdict → Type 0) (done : Q Done) (range : (i : ℕ) → Q (Refused OutOfRange i)) (float : (i : ℕ) → Q (Refused NotFinite i)) (matrix : Q (Refused NotInvertible 0)) where
+  then-so : (v w : Verdict) → Q v → Q w → Q (andThen v w)
+  then-so Done w a b = b
+  then-so (Refused r i) w a b = a
+
+  most-so : (p : List ℕ) (i most : ℕ) → Q (atMost p i most)
+  most-so p i most = either Q (leb (wordAt p i) most) _ _ done (range i)
+
+  from-so : (p : List ℕ) (i n : ℕ) → Q (finiteFrom p i n)
+  unfolding finiteFrom
+  from-so p i zero = done
+  from-so p i (suc n) = either Q (finite (floatAt p i)) _ _ (from-so p (i + 1) n) (float i)
+
+  each-so : (check : ℕ → Verdict) → ((i : ℕ) → Q (check i)) → Q (eachOf check)
+  each-so check a = then-so (check 0) _ (a 0) (then-so (check 1) _ (a 1) (a 2))
+
+  invertible-so : (x : Inverse) → Q (invertibleOf x)
+  invertible-so (Of m) = done
+  invertible-so Singular = matrix
+
+  reached-so : (v : ClipVertex) (o : ℕ) → Q (reachedOf v o)
+  reached-so v o = either Q (finite4 (v .position)) _ _ done (float o)
+
+  inputs-so : (p : List ℕ) (normal textured : Bool) → Q (inputsOf p normal textured)
+  unfolding inputsOf
+  inputs-so p normal textured = each-so _ (λ i. from-so p (firstOf normal textured i) (colorAt normal textured))
+
+  plain-so : (p : List ℕ) (tri : List ClipVertex) → Q (plainOf p tri)
+  unfolding plainOf plainVertex
+  plain-so p tri = each-so _ (λ i. then-so (reachedOf (corner tri i) (firstOf false true i)) _ (reached-so (corner tri i) (firstOf false true i)) (from-so p (firstOf false true i + 3) 2))
+
+  -- a textured draw, after its mode and its number
+  pub checked-so : (p : List ℕ) (normal : Bool) (m : List Float) → Q (checkedVerdict p normal m)
+  unfolding checkedVerdict texturedBy
+  checked-so p normal m =
+      then-so (invertibleOf (normalMatrixOf m normal)) _ (invertible-so (normalMatrixOf m normal))
+      (either Q normal (inputsOf p true true) (plainOf p (cornersOf p normal true m)) (inputs-so p true true) (plain-so p (cornersOf p normal true m)))
+
+  transformed-so : (p : List ℕ) (normal : Bool) (m : List Float) → Q (transformedVerdict p normal m)
+  unfolding transformedVerdict transformedBy
+  transformed-so p normal m =
+      then-so (invertibleOf (normalMatrixOf m normal)) _ (invertible-so (normalMatrixOf m normal))
+      (then-so (inputsOf p normal false) _ (inputs-so p normal false)
+      (each-so _ (λ i. reached-so (corner (cornersOf p normal false m) i) (firstOf normal false i))))
+
+  out-so : (p ks : List ℕ) → Q (firstOut p ks)
+  out-so p [] = done
+  out-so p (k ∷ ks) = either Q (inReach (signedAt p k)) _ _ (out-so p ks) (range k)
+
+  flat-so : (p : List ℕ) → Q (flatVerdict p)
+  unfolding flatVerdict
+  flat-so p = out-so p (0 ∷ 1 ∷ 3 ∷ 4 ∷ 6 ∷ 7 ∷ [])
+
+  module _ (long : Q wrongLength) (unknown : Q (Refused UnknownOpcode 0)) (held : Q (Refused NotHeld 0)) where
+    -- ---- 01, 02 and 15
+    abbrev Changes : Changed → Type 0
+    Changes c = Q (c .verdict)
+
+    set-so : (s : Settings) (op : ℕ) (p : List ℕ) → Changes (settingsAfter s op p)
+    unfolding settingsAfter modeVerdict matrixVerdict lightVerdict
+    set-so s op p =
+        let wrong : Changed = changed wrongLength s s in
+        either Changes (eqb op 1) _ _ (either Changes (eqb (length p) 2) (changed (modeVerdict p) (withMode s p) s) wrong (then-so (atMost p 0 1) _ (most-so p 0 1) (most-so p 1 1)) long)
+        (either Changes (eqb op 2) _ _ (either Changes (eqb (length p) 17) (changed (matrixVerdict p) (withMatrix s p) s) wrong (then-so (atMost p 0 2) _ (most-so p 0 2) (from-so p 1 16)) long)
+        (either Changes (eqb (length p) 17) (changed (lightVerdict p) (withLight s p) s) wrong (then-so (atMost p 0 7) _ (most-so p 0 7) (then-so (atMost p 1 1) _ (most-so p 1 1) (from-so p 2 15))) long))
+
+    -- ---- 17 and 1A, before room is asked
+    texture-so : (p : List ℕ) → Q (textureVerdict p)
+    unfolding textureVerdict
+    texture-so p =
+        either Q (ltb (length p) 3) _ _ long
+        (either Q (eqb (wordAt p 1) 0) _ _ (range 1)
+        (either Q (eqb (wordAt p 2) 0) _ _ (range 2) (either Q (ltb 1024 (wordAt p 1)) _ _ (range 1) (either Q (ltb 1024 (wordAt p 2)) _ _ (range 2) (either Q (eqb (length p) _) _ _ done long)))))
+
+    count-so : (p : List ℕ) → Q (countVerdict p)
+    unfolding countVerdict
+    count-so p = either Q (ltb (length p) 2) _ _ long (either Q (eqb (wordAt p 1) 0) _ _ (range 1) (either Q (eqb (length p) _) _ _ done long))
+
+    -- ---- the draws
+    textured-so : (p : List ℕ) (normal b : Bool) (m : List Float) → Q (texturedVerdict p normal b m)
+    unfolding texturedVerdict
+    textured-so p normal b m = then-so (atMost p 1 2) _ (most-so p 1 2) (then-so (heldOf b) _ (either Q b _ _ done held) (checked-so p normal m))
+
+    records-so : (mode : ℕ) (has : ℕ → Bool) (m : List Float) (n : ℕ) (ws : List ℕ) → Q (recordsVerdict mode has m n ws)
+    unfolding recordsVerdict
+    records-so mode has m zero ws = done
+    records-so mode has m (suc n) ws =
+        then-so (texturedVerdict (triangleOf mode ws) true (has (wordAt ws 0)) m) _ (textured-so (triangleOf mode ws) true (has (wordAt ws 0)) m) (records-so mode has m n (drop 28 ws))
+
+    model-so : (p : List ℕ) (has : ℕ → Bool) (m : List Float) (o : Option Whole) → Q (modelVerdict p has m o)
+    unfolding modelVerdict
+    model-so p has m none = then-so (atMost p 1 2) _ (most-so p 1 2) held
+    model-so p has m (some u) = then-so (atMost p 1 2) _ (most-so p 1 2) (records-so (wordAt p 1) has m (u .wide) (u .words))
+
+    abbrev Strokes : Stroked → Type 0
+    Strokes k = Q (k .verdict)
+
+    floats-so : (look : Look) (s : Settings) (op : ℕ) (p : List ℕ) → Strokes (floatsBy look s op p)
+    unfolding floatsBy transformedStroked texturedStroked modelStroked
+    floats-so look s op p =
+        let wrong : Stroked = record { verdict = wrongLength; strokes = [] } in
+        either Strokes (eqb op 0x14) _ _ (either Strokes (eqb (length p) 12) (transformedStroked s false p) wrong (transformed-so p false (s .matrices)) long)
+        (either Strokes (eqb op 0x16) _ _ (either Strokes (eqb (length p) 21) (transformedStroked s true p) wrong (transformed-so p true (s .matrices)) long)
+        (either Strokes (eqb op 0x18) _ _ (either Strokes (eqb (length p) 20) (texturedStroked look s false p) wrong (textured-so p false _ (s .matrices)) long)
+        (either Strokes (eqb op 0x19) _ _ (either Strokes (eqb (length p) 29) (texturedStroked look s true p) wrong (textured-so p true _ (s .matrices)) long)
+        (either Strokes (eqb op 0x1b) _ (record { verdict = Refused UnknownOpcode 0; strokes = [] }) (either Strokes (eqb (length p) 2) (modelStroked look s p) wrong (model-so p _ (s .matrices) _) long) unknown))))
+
+    abbrev Paints : Painted → Type 0
+    Paints a = Q (a .verdict)
+
+    painted-so : (look : Look) (s : Settings) (op : ℕ) (p : List ℕ) → Paints (paintedBy look s op p)
+    unfolding paintedBy clearPainted flatPainted
+    painted-so look s op p =
+        let wrong : Painted = record { verdict = wrongLength; paints = [] } in
+        either Paints (eqb op 0x04) _ _ (either Paints (eqb (length p) 3) (clearPainted p) wrong (most-so p 0 3) long)
+        (either Paints (eqb op 0x12) _ (asPaints (floatsBy look s op p)) (either Paints (eqb (length p) 11) (flatPainted p) wrong (flat-so p) long) (floats-so look s op p))
+
+    -- ---- every command, before room is asked
+    abbrev Tells : Told → Type 0
+    Tells t = Q (t .verdict)
+
+    pub told-so : (look : Look) (s : Settings) (op : ℕ) (p : List ℕ) → Q (told look s op p .verdict)
+    unfolding told loadTold
+    told-so look s op p =
+        either Tells (sets op) (toldOf (settingsAfter s op p)) _ (set-so s op p)
+        (either Tells (loads op) _ (toldBy s (paintedBy look s op p))
+        (either Tells (eqb op 0x17) (loading (textureVerdict p) s (textureIn p)) (loading (countVerdict p) s (modelIn p)) (texture-so p) (count-so p)) (painted-so look s op p))

@@ -1,0 +1,1 @@
+// What was promised, as theorems: it has no code.
