@@ -5,6 +5,10 @@ mod plain;
 use plain::VpuState;
 use screen::plane::Read;
 use vpu::Answer;
+ghost use mathlib.Core.Path.{_≡_};
+ghost use Rattle.screen.specs.Plane.{pixelOf};
+ghost use Rattle.vpu.specs.Calls.{numberOf};
+ghost use Rattle.vpu_c.specs.Calls.{handed, resetC, feedC, shown};
 
 #[repr(C)]
 pub struct VpuFed {
@@ -21,7 +25,9 @@ pub struct VpuColour {
     pub a: u8,
 }
 
-fn number_of(answer: Answer) -> u32 {
+fn number_of(answer: Answer) -> u32
+    ensures { λ r. ⌜ r ≡ numberOf answer ⌝ }
+{
     match answer {
         Answer::Done => 0,
         Answer::WrongLength => 1,
@@ -37,7 +43,10 @@ pub extern "C" fn vpu_reset(
     command: &[u32],
     textures: &mut [u32],
     models: &mut [u32],
-) -> VpuFed {
+) -> VpuFed
+    ensures { λ r. ⌜ handed (r .answer) (r .state) (now (plane .exit)) (now (depth .exit)) (now («depth_f32» .exit)) (now (command .entry)) (now (textures .exit)) (now (models .exit))
+        ≡ resetC (now (plane .entry)) (now (depth .entry)) (now («depth_f32» .entry)) (now (command .entry)) (now (textures .entry)) (now (models .entry)) ⌝ }
+{
     let begun = vpu::reset(plane, depth, depth_f32, command, textures, models);
     let answer = begun.answer;
     let state = begun.state;
@@ -57,20 +66,22 @@ pub extern "C" fn vpu_feed(
     command: &mut [u32],
     textures: &mut [u32],
     models: &mut [u32],
-) -> VpuFed {
+) -> VpuFed
+    ensures { λ r. ⌜ handed (r .answer) (r .state) (now (plane .exit)) (now (depth .exit)) (now («depth_f32» .exit)) (now (command .exit)) (now (textures .exit)) (now (models .exit))
+        ≡ feedC state (now (words .entry)) (now (plane .entry)) (now (depth .entry)) (now («depth_f32» .entry)) (now (command .entry)) (now (textures .entry)) (now (models .entry)) ⌝ }
+{
     if !plain::switches_ok(state) {
-        let right = vpu::lengths_ok(
+        if !vpu::lengths_ok(
             plane.len(),
             depth.len(),
             depth_f32.len(),
             command.len(),
             textures.len(),
             models.len(),
-        );
-        return VpuFed {
-            answer: if right { 2 } else { 1 },
-            state,
-        };
+        ) {
+            return VpuFed { answer: 1, state };
+        }
+        return VpuFed { answer: 2, state };
     }
     let fed = vpu::feed(
         plain::state_in(state),
@@ -91,7 +102,9 @@ pub extern "C" fn vpu_feed(
 }
 
 #[no_mangle]
-pub extern "C" fn vpu_pixel(plane: &[u8], x: usize, y: usize) -> VpuColour {
+pub extern "C" fn vpu_pixel(plane: &[u8], x: usize, y: usize) -> VpuColour
+    ensures { λ r. ⌜ shown r ≡ pixelOf (now (plane .entry)) x y ⌝ }
+{
     let read = vpu::pixel(plane, x, y);
     match read {
         Read::Colour(c) => VpuColour {

@@ -4,6 +4,10 @@ use settings::Settings;
 use state::State;
 use store::SLOTS;
 use store::Slot;
+ghost use mathlib.Core.Path.{_≡_};
+ghost use mathlib.Core.List.{map};
+ghost use Rattle.settings.specs.Settings.{allOf};
+ghost use Rattle.vpu_c.specs.Plain.{switchOf, lightIn, lightOut, slotIn, slotOut, stateIn, stateOut, lightSwitch, slotSwitch, switchesOk};
 
 #[repr(C)]
 pub struct VpuLight {
@@ -15,6 +19,17 @@ pub struct VpuLight {
     pub position: [f32; 3],
 }
 
+impl VpuLight {
+    const DARK: VpuLight = VpuLight {
+        enabled: 0,
+        ambient: [0.0; 3],
+        diffuse: [0.0; 3],
+        specular: [0.0; 3],
+        emission: [0.0; 3],
+        position: [0.0; 3],
+    };
+}
+
 #[repr(C)]
 pub struct VpuSlot {
     pub held: u8,
@@ -24,25 +39,39 @@ pub struct VpuSlot {
     pub start: u32,
 }
 
+impl VpuSlot {
+    const UNUSED: VpuSlot = VpuSlot {
+        held: 0,
+        number: 0,
+        width: 0,
+        height: 0,
+        start: 0,
+    };
+}
+
 #[repr(C)]
 pub struct VpuState {
     pub matrices: [f32; 48],
     pub shading_mode: u32,
     pub lighting_enabled: u8,
     pub lights: [VpuLight; 8],
-    pub textures: [VpuSlot; 64],
-    pub models: [VpuSlot; 64],
+    pub textures: [VpuSlot; SLOTS],
+    pub models: [VpuSlot; SLOTS],
     pub opcode: u32,
     pub gathered: u32,
     pub wanted: u32,
     pub status: u32,
 }
 
-fn switch_of(b: bool) -> u8 {
+fn switch_of(b: bool) -> u8
+    ensures { λ r. ⌜ r ≡ switchOf b ⌝ }
+{
     if b { 1 } else { 0 }
 }
 
-fn light_in(l: VpuLight) -> Light {
+fn light_in(l: VpuLight) -> Light
+    ensures { λ r. ⌜ r ≡ lightIn l ⌝ }
+{
     let ambient = l.ambient;
     let diffuse = l.diffuse;
     let specular = l.specular;
@@ -58,7 +87,9 @@ fn light_in(l: VpuLight) -> Light {
     }
 }
 
-fn light_out(l: Light) -> VpuLight {
+fn light_out(l: Light) -> VpuLight
+    ensures { λ r. ⌜ r ≡ lightOut l ⌝ }
+{
     let ambient = l.ambient;
     let diffuse = l.diffuse;
     let specular = l.specular;
@@ -74,7 +105,9 @@ fn light_out(l: Light) -> VpuLight {
     }
 }
 
-fn slot_in(s: VpuSlot) -> Slot {
+fn slot_in(s: VpuSlot) -> Slot
+    ensures { λ r. ⌜ r ≡ slotIn s ⌝ }
+{
     Slot {
         held: s.held != 0,
         number: s.number,
@@ -84,7 +117,9 @@ fn slot_in(s: VpuSlot) -> Slot {
     }
 }
 
-fn slot_out(s: Slot) -> VpuSlot {
+fn slot_out(s: Slot) -> VpuSlot
+    ensures { λ r. ⌜ r ≡ slotOut s ⌝ }
+{
     VpuSlot {
         held: switch_of(s.held),
         number: s.number,
@@ -94,7 +129,9 @@ fn slot_out(s: Slot) -> VpuSlot {
     }
 }
 
-fn lights_in(lights: [VpuLight; 8]) -> [Light; 8] {
+fn lights_in(lights: [VpuLight; 8]) -> [Light; 8]
+    ensures { λ r. ⌜ r ≡ map lightIn lights ⌝ }
+{
     let mut out = [Light::DISABLED; 8];
     let mut i: usize = 0;
     while i < 8 {
@@ -104,10 +141,11 @@ fn lights_in(lights: [VpuLight; 8]) -> [Light; 8] {
     out
 }
 
-fn lights_out(lights: [Light; 8]) -> [VpuLight; 8] {
-    let first = light_out(lights[0]);
-    let mut out = [first; 8];
-    let mut i: usize = 1;
+fn lights_out(lights: [Light; 8]) -> [VpuLight; 8]
+    ensures { λ r. ⌜ r ≡ map lightOut lights ⌝ }
+{
+    let mut out = [VpuLight::DARK; 8];
+    let mut i: usize = 0;
     while i < 8 {
         out[i] = light_out(lights[i]);
         i += 1;
@@ -115,7 +153,9 @@ fn lights_out(lights: [Light; 8]) -> [VpuLight; 8] {
     out
 }
 
-fn slots_in(slots: [VpuSlot; 64]) -> [Slot; SLOTS] {
+fn slots_in(slots: [VpuSlot; SLOTS]) -> [Slot; SLOTS]
+    ensures { λ r. ⌜ r ≡ map slotIn slots ⌝ }
+{
     let mut out = [Slot::UNUSED; SLOTS];
     let mut i: usize = 0;
     while i < SLOTS {
@@ -125,10 +165,11 @@ fn slots_in(slots: [VpuSlot; 64]) -> [Slot; SLOTS] {
     out
 }
 
-fn slots_out(slots: [Slot; SLOTS]) -> [VpuSlot; 64] {
-    let first = slot_out(slots[0]);
-    let mut out = [first; 64];
-    let mut i: usize = 1;
+fn slots_out(slots: [Slot; SLOTS]) -> [VpuSlot; SLOTS]
+    ensures { λ r. ⌜ r ≡ map slotOut slots ⌝ }
+{
+    let mut out = [VpuSlot::UNUSED; SLOTS];
+    let mut i: usize = 0;
     while i < SLOTS {
         out[i] = slot_out(slots[i]);
         i += 1;
@@ -136,7 +177,9 @@ fn slots_out(slots: [Slot; SLOTS]) -> [VpuSlot; 64] {
     out
 }
 
-pub fn state_in(s: VpuState) -> State {
+pub fn state_in(s: VpuState) -> State
+    ensures { λ r. ⌜ r ≡ stateIn s ⌝ }
+{
     let matrices = s.matrices;
     let lights = s.lights;
     let textures = s.textures;
@@ -157,7 +200,9 @@ pub fn state_in(s: VpuState) -> State {
     }
 }
 
-pub fn state_out(s: State) -> VpuState {
+pub fn state_out(s: State) -> VpuState
+    ensures { λ r. ⌜ r ≡ stateOut s ⌝ }
+{
     let set = s.settings;
     let matrices = set.matrices;
     let lights = set.lights;
@@ -177,7 +222,9 @@ pub fn state_out(s: State) -> VpuState {
     }
 }
 
-fn lights_ok(lights: [VpuLight; 8]) -> bool {
+fn lights_ok(lights: [VpuLight; 8]) -> bool
+    ensures { λ r. ⌜ r ≡ allOf lightSwitch lights ⌝ }
+{
     let mut i: usize = 0;
     while i < 8 {
         let l = lights[i];
@@ -189,9 +236,11 @@ fn lights_ok(lights: [VpuLight; 8]) -> bool {
     true
 }
 
-fn slots_ok(slots: [VpuSlot; 64]) -> bool {
+fn slots_ok(slots: [VpuSlot; SLOTS]) -> bool
+    ensures { λ r. ⌜ r ≡ allOf slotSwitch slots ⌝ }
+{
     let mut i: usize = 0;
-    while i < 64 {
+    while i < SLOTS {
         let s = slots[i];
         if s.held > 1 {
             return false;
@@ -202,7 +251,9 @@ fn slots_ok(slots: [VpuSlot; 64]) -> bool {
 }
 
 // Is each switch 0 or 1?
-pub fn switches_ok(s: VpuState) -> bool {
+pub fn switches_ok(s: VpuState) -> bool
+    ensures { λ r. ⌜ r ≡ switchesOk s ⌝ }
+{
     if s.lighting_enabled > 1 {
         return false;
     }

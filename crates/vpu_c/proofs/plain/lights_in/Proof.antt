@@ -1,17 +1,21 @@
--- Every index lies below 8, and the loop ends after eight turns. Assumes nothing.
-use Prim.Native.Nat.{_-_, _≤_}
+-- The invariant: after i turns the first i elements are the map's (`Mapped.antt`). Assumes nothing.
+use Prim.Native.Nat.{_-_}
+use mathlib.Core.Path.{refl}
+use native.Mathlib.Omega.{arith}
 use borrow.Author.Needs.{needs}
+use Rattle.vpu_c.specs.Plain.{lightIn}
+use Rattle.vpu_c.proofs.Mapped.{Mapped, mapped-more, mapped-all}
 use Rattle.vpu_c.proofs.plain.lights_in.Statement.{statement}
 use Rattle.vpu_c.proofs.plain.lights_in.Tie as tie
 
 abbrev Inv-loop : tie.InvT-loop
-Inv-loop lights out₀ i₀ out i = i ≤ 8
+Inv-loop lights out₀ i₀ out i = Mapped lightIn 8 lights i out
 
 abbrev μ-loop : tie.MeasureT-loop
 μ-loop lights out₀ i₀ out i = 8 - i
 
 loop-holds : tie.Need-loop-holds Inv-loop μ-loop
-loop-holds c = search needs
+loop-holds c = record { within = omega arith; long-from = search needs; long-to = search needs; done = refl }
 
 mul-light-in : tie.Need-mul-light-in Inv-loop μ-loop
 mul-light-in c = search needs
@@ -35,10 +39,10 @@ loop-less : tie.Need-loop-less Inv-loop μ-loop
 loop-less c = search needs
 
 loop-again : tie.Need-loop-again Inv-loop μ-loop
-loop-again c = search needs
+loop-again c = mapped-more (c .before .before .before .loop .inv) _ (c .light-in .ensures) (omega arith)
 
 returns : tie.Need-returns Inv-loop μ-loop
-returns c = search needs
+returns c = mapped-all (c .before .loop .inv) (omega arith)
 
 pub lights-in-spec : {M : Type 1} → statement M
 lights-in-spec =

@@ -1,32 +1,30 @@
--- Every index lies below 8, and the loop ends after seven turns. Assumes nothing.
-use Prim.Native.Nat.{_-_, _≤_}
+-- The invariant: after i turns the first i elements are the map's (`Mapped.antt`). Assumes nothing.
+use Prim.Native.Nat.{_-_}
+use mathlib.Core.Path.{refl}
+use native.Mathlib.Omega.{arith}
 use borrow.Author.Needs.{needs}
+use Rattle.vpu_c.specs.Plain.{lightOut}
+use Rattle.vpu_c.proofs.Mapped.{Mapped, mapped-more, mapped-all}
 use Rattle.vpu_c.proofs.plain.lights_out.Statement.{statement}
 use Rattle.vpu_c.proofs.plain.lights_out.Tie as tie
 
 abbrev Inv-loop : tie.InvT-loop
-Inv-loop lights out₀ i₀ out i = i ≤ 8
+Inv-loop lights out₀ i₀ out i = Mapped lightOut 8 lights i out
 
 abbrev μ-loop : tie.MeasureT-loop
 μ-loop lights out₀ i₀ out i = 8 - i
+
+loop-holds : tie.Need-loop-holds Inv-loop μ-loop
+loop-holds c = record { within = omega arith; long-from = search needs; long-to = search needs; done = refl }
+
+mul-light-out : tie.Need-mul-light-out Inv-loop μ-loop
+mul-light-out c = search needs
 
 array-copy-out-light-out : tie.Need-array-copy-out-light-out Inv-loop μ-loop
 array-copy-out-light-out c = search needs
 
 light-out-requires : tie.Need-light-out-requires Inv-loop μ-loop
 light-out-requires c κs = search needs
-
-loop-holds : tie.Need-loop-holds Inv-loop μ-loop
-loop-holds c = search needs
-
-mul-light-out : tie.Need-mul-light-out Inv-loop μ-loop
-mul-light-out c = search needs
-
-array-copy-out-light-out-2 : tie.Need-array-copy-out-light-out-2 Inv-loop μ-loop
-array-copy-out-light-out-2 c = search needs
-
-light-out-requires-2 : tie.Need-light-out-requires-2 Inv-loop μ-loop
-light-out-requires-2 c κs = search needs
 
 mul-out : tie.Need-mul-out Inv-loop μ-loop
 mul-out c = search needs
@@ -41,10 +39,10 @@ loop-less : tie.Need-loop-less Inv-loop μ-loop
 loop-less c = search needs
 
 loop-again : tie.Need-loop-again Inv-loop μ-loop
-loop-again c = search needs
+loop-again c = mapped-more (c .before .before .before .loop .inv) _ (c .light-out .ensures) (omega arith)
 
 returns : tie.Need-returns Inv-loop μ-loop
-returns c = search needs
+returns c = mapped-all (c .before .loop .inv) (omega arith)
 
 pub lights-out-spec : {M : Type 1} → statement M
 lights-out-spec =
@@ -52,12 +50,10 @@ lights-out-spec =
     (tie.spec
     Inv-loop
     μ-loop
-    array-copy-out-light-out
-    light-out-requires
     loop-holds
     mul-light-out
-    array-copy-out-light-out-2
-    light-out-requires-2
+    array-copy-out-light-out
+    light-out-requires
     mul-out
     array-set-from-out
     add-i

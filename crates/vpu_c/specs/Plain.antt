@@ -1,0 +1,94 @@
+-- The state as plain data and the state of the machine, each from the other: switches are bytes, settings stand flat. Definitions only.
+use Prim.Native.Nat.{ℕ}
+use mathlib.Core.Bool.{Bool, true, false, not, _&&_}
+use mathlib.Core.List.{map}
+use lib.Dec.{eqb, leb}
+use Rattle.light.specs.declared.Light.{Light}
+use Rattle.store.specs.declared.Slot.{Slot}
+use Rattle.settings.specs.Settings.{allOf}
+use Rattle.state.specs.declared.State.{State}
+use Rattle.vpu_c.specs.declared.plain.VpuLight.{VpuLight}
+use Rattle.vpu_c.specs.declared.plain.VpuSlot.{VpuSlot}
+use Rattle.vpu_c.specs.declared.plain.VpuState.{VpuState}
+
+-- a switch as a byte, a byte as a switch, and whether the byte is one
+abbrev pub switchOf : Bool → ℕ
+switchOf true = 1
+switchOf false = 0
+
+abbrev pub isOn : ℕ → Bool
+isOn b = not (eqb b 0)
+
+abbrev pub isSwitch : ℕ → Bool
+isSwitch b = leb b 1
+
+-- document 01, "A light is one record of fifteen finite floats and a switch"
+abbrev pub lightIn : VpuLight → Light
+lightIn l = record {
+  enabled = isOn (l .enabled);
+  ambient = l .ambient;
+  diffuse = l .diffuse;
+  specular = l .specular;
+  emission = l .emission;
+  position = l .position;
+}
+
+abbrev pub lightOut : Light → VpuLight
+lightOut l = record {
+  enabled = switchOf (l .enabled);
+  ambient = l .ambient;
+  diffuse = l .diffuse;
+  specular = l .specular;
+  emission = l .emission;
+  position = l .position;
+}
+
+-- document 01, "64 slots each"
+abbrev pub slotIn : VpuSlot → Slot
+slotIn s = record { held = isOn (s .held); number = s .number; width = s .width; height = s .height; start = s .start }
+
+abbrev pub slotOut : Slot → VpuSlot
+slotOut s = record { held = switchOf (s .held); number = s .number; width = s .width; height = s .height; start = s .start }
+
+-- document 01, "The machine's small state travels as one value"
+abbrev pub stateIn : VpuState → State
+stateIn v = record {
+  settings = record {
+    matrices = v .matrices;
+    «shading_mode» = v .«shading_mode»;
+    «lighting_enabled» = isOn (v .«lighting_enabled»);
+    lights = map lightIn (v .lights);
+  };
+  textures = map slotIn (v .textures);
+  models = map slotIn (v .models);
+  opcode = v .opcode;
+  gathered = v .gathered;
+  wanted = v .wanted;
+  status = v .status;
+}
+
+abbrev pub stateOut : State → VpuState
+stateOut s = record {
+  matrices = s .settings .matrices;
+  «shading_mode» = s .settings .«shading_mode»;
+  «lighting_enabled» = switchOf (s .settings .«lighting_enabled»);
+  lights = map lightOut (s .settings .lights);
+  textures = map slotOut (s .textures);
+  models = map slotOut (s .models);
+  opcode = s .opcode;
+  gathered = s .gathered;
+  wanted = s .wanted;
+  status = s .status;
+}
+
+-- is every switch 0 or 1?
+abbrev pub lightSwitch : VpuLight → Bool
+lightSwitch l = isSwitch (l .enabled)
+
+abbrev pub slotSwitch : VpuSlot → Bool
+slotSwitch s = isSwitch (s .held)
+
+unfoldable pub switchesOk : VpuState → Bool
+switchesOk v =
+    isSwitch (v .«lighting_enabled»)
+    && (allOf lightSwitch (v .lights) && (allOf slotSwitch (v .textures) && allOf slotSwitch (v .models)))
