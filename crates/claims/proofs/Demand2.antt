@@ -1,5 +1,5 @@
 -- Demand 2: inside the domain, plane, both depths and status after each call are those of document 000 as it reads. Word by word the plain machine of demand 3 is the original, since there every upload has room and every flat triangle is near. Assumes nothing.
-use Prim.Native.Nat.{ℕ, zero, suc, _-_, _/_, _%_, _≤_, _<_}
+use Prim.Native.Nat.{ℕ, _-_, _/_, _%_}
 use mathlib.Core.Path.{_≡_, refl, sym, ap, _∙_}
 use mathlib.Core.Bool.{Bool, true, false, cond, _&&_}
 use mathlib.Core.Option.{Option, none, some}
@@ -26,15 +26,15 @@ use Rattle.state.specs.State.{mostPayload}
 use Rattle.execute.specs.Paints.{Picture, flat, paintsOn}
 use Rattle.execute.specs.Commands.{Look, Load, Told, tells, loading, textureVerdict, countVerdict, textureIn, modelIn, settingsAfter, toldOf, toldBy, sets, loads, loadTold, flatPainted, paintedBy, told}
 use Rattle.execute.specs.Control as control
-use Rattle.execute.specs.Control.{Control, Step, Seen, stepped, verdictOf, keptOf, executed}
-use Rattle.vpu.specs.Framing.{dropped, begun, taken, still, header, gather, word, wordOn, run}
+use Rattle.execute.specs.Control.{Control, Step, Seen, stepped, verdictOf, keptOf}
+use Rattle.vpu.specs.Framing.{dropped, header, gather, word, wordOn, run}
 use Rattle.execute.specs.Kept.{Machine}
 use Rattle.vpu.specs.Calls.{reset}
 use Rattle.vpu.proofs.Laws.{run-append}
 use Rattle.vpu.proofs.Returned.{Small}
 use Rattle.claims.specs.Plain.{Past, history, accepted, asPast, plainStart}
 use Rattle.claims.specs.Runs.{afterAll, AllAllowed, after, feeds, own, sizes, plainAfter, plainAll}
-use Rattle.claims.specs.Original.{Vpu, new, inserted, kept, arm, ended, execute, marked, waiting, await, pump, push, pushes}
+use Rattle.claims.specs.Original.{Vpu, new, inserted, kept, arm, execute, marked, waiting, await, pump, push, pushes}
 use Rattle.claims.specs.Domain.{Near, Within, Fine, AllFine, InDomain, calls}
 use Rattle.claims.proofs.Reasons.{told-so}
 use Rattle.claims.proofs.Demand3.{demand3}
