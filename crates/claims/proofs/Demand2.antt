@@ -33,11 +33,11 @@ use Rattle.vpu.specs.Calls.{reset}
 use Rattle.vpu.proofs.Laws.{run-append}
 use Rattle.vpu.proofs.Returned.{Small}
 use Rattle.claims.specs.Plain.{Past, history, accepted, asPast, plainStart}
-use Rattle.claims.specs.Runs.{afterAll, AllAllowed, after, feeds, own, sizes, plainAfter, plainAll}
+use Rattle.claims.specs.Runs.{resetOn, Call, afterAll, AllAllowed, after, feeds, own, sizes, plainAfter, plainAll}
 use Rattle.claims.specs.Original.{Vpu, new, inserted, kept, arm, execute, marked, waiting, await, pump, push, pushes}
 use Rattle.claims.specs.Domain.{Near, Within, Fine, AllFine, InDomain, calls}
 use Rattle.claims.proofs.Reasons.{told-so}
-use Rattle.claims.proofs.Demand3.{demand3}
+use Rattle.claims.proofs.Demand3.{demand3, reset-again}
 
 -- ---- what the arms say
 abbrev corners : List ℕ
@@ -307,3 +307,11 @@ module _ (P : List ℕ) (D : List ℤ) (F : List Float) (C T M : List ℕ) (done
       → (afterAll (reset P D F C T M .machine) (calls (singles ws)) .picture ≡ pushes new ws .picture)
       × (afterAll (reset P D F C T M .machine) (calls (singles ws)) .control .status ≡ pushes new ws .status)
   demand2-words ws d = rw (singles-flat ws) at (demand2 (singles ws) (rw (singles-flat ws) d))
+
+-- a reset in the midst of a run, which is answered 0: whatever calls came before it, in the domain or not
+pub demand2-again : (P : List ℕ) (D : List ℤ) (F : List Float) (C T M : List ℕ) (done : reset P D F C T M .answer ≡ 0) (cs : List Call)
+    → AllAllowed (reset P D F C T M .machine) cs → (wss : List (List ℕ))
+    → InDomain (sizes (afterAll (reset P D F C T M .machine) cs .control .box .textures .words) (afterAll (reset P D F C T M .machine) cs .control .box .models .words)) (flatten wss)
+    → (afterAll (resetOn (afterAll (reset P D F C T M .machine) cs) .machine) (calls wss) .picture ≡ pushes new (flatten wss) .picture)
+    × (afterAll (resetOn (afterAll (reset P D F C T M .machine) cs) .machine) (calls wss) .control .status ≡ pushes new (flatten wss) .status)
+demand2-again P D F C T M done cs before = demand2 _ _ _ _ _ _ (reset-again P D F C T M done cs before)

@@ -56,7 +56,7 @@ abbrev pub kept : Look → Option Load → Look
 kept held none = held
 kept held (some l) = inserted held (l .kind) (l .whole)
 
--- lines 151 to 224, the arms. Line 206, `0x12 if p.len() == 11`: any triangle is drawn. It is drawn over whole numbers here, and for coordinates whose differences overflow nothing is claimed
+-- lines 151 to 224, the arms. Line 206, `0x12 if p.len() == 11`: any triangle is drawn, here over whole numbers; outside the domain nothing is claimed
 unfoldable pub arm : Look → Settings → ℕ → List ℕ → Told
 arm held s opcode p = cond (eqb opcode 0x12 && eqb (length p) 11) (tells Done s (flat (triOf p) ∷ [])) (told held s opcode p)
 
@@ -79,10 +79,11 @@ execute v = ended v (arm (v .uploads) (v .settings) (getD (v .command) 0 0) (dro
 abbrev pub marked : Vpu → ℕ → Vpu
 marked v bit = record { picture = v .picture; settings = v .settings; uploads = v .uploads; command = v .command; expected = v .expected; status = bitOr (v .status) bit }
 
--- lines 130 to 135 and 137 to 142: a command with so many words left, which runs where there are none
+-- a command with so many words left
 abbrev pub waiting : Vpu → List ℕ → ℕ → Vpu
 waiting v command left = record { picture = v .picture; settings = v .settings; uploads = v .uploads; command = command; expected = some left; status = v .status }
 
+-- lines 130 to 135 and 137 to 142: it runs where none is left
 unfoldable pub await : Vpu → List ℕ → ℕ → Vpu
 await v command left = cond (eqb left 0) (execute (waiting v command left)) (waiting v command left)
 
