@@ -29,9 +29,8 @@ use Rattle.execute.specs.Control as control
 use Rattle.execute.specs.Control.{Control, Step, Seen, stepped, verdictOf, keptOf}
 use Rattle.vpu.specs.Framing.{dropped, header, gather, word, wordOn, run}
 use Rattle.execute.specs.Kept.{Machine}
-use Rattle.vpu.specs.Calls.{reset}
+use Rattle.vpu.specs.Calls.{Small, reset}
 use Rattle.vpu.proofs.Laws.{run-append}
-use Rattle.vpu.proofs.Returned.{Small}
 use Rattle.claims.specs.Plain.{Past, history, accepted, asPast, plainStart}
 use Rattle.claims.specs.Runs.{resetOn, Call, afterAll, AllAllowed, after, feeds, own, sizes, plainAfter, plainAll}
 use Rattle.claims.specs.Original.{Vpu, new, inserted, kept, arm, execute, marked, waiting, await, pump, push, pushes}

@@ -17,7 +17,7 @@ use Rattle.execute.specs.Control as control
 use Rattle.execute.specs.Commands.{Load, textureIn, told, sets, loads, loadTold, textureVerdict, paintedBy, clearPainted, flatPainted}
 use Rattle.flat.specs.Words.{flatVerdict, inReach}
 use Rattle.vpu.specs.Framing.{word, header, gather, run}
-use Rattle.vpu.proofs.Returned.{Small}
+use Rattle.vpu.specs.Calls.{Small}
 use Rattle.claims.specs.Plain.{asPast, plainStart}
 use Rattle.claims.specs.Original.{new, arm, execute, await, push, pushes}
 use Rattle.claims.specs.Domain.{AllFine, InDomain}
