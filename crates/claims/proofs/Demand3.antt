@@ -22,9 +22,9 @@ use Rattle.state.proofs.Formed.{fresh-formed}
 use Rattle.execute.specs.Control.{Seen}
 use Rattle.execute.specs.Kept.{Machine, machine, asBox}
 use Rattle.vpu.specs.Framing.{run}
-use Rattle.vpu.specs.Calls.{Outcome, outcome, lengthsOk, cleared, reset}
-use Rattle.vpu.proofs.Laws.{stateOf, parts-machine, lengths, reset-wrong, reset-done, feed-wrong, feed-malformed, feed-done, run-append}
-use Rattle.vpu.proofs.Returned.{Small, returned-formed}
+use Rattle.vpu.specs.Calls.{Small, stateOf, Outcome, outcome, lengthsOk, cleared, reset}
+use Rattle.vpu.proofs.Laws.{parts-machine, lengths, reset-wrong, reset-done, feed-wrong, feed-malformed, feed-done, run-append}
+use Rattle.vpu.proofs.Returned.{returned-formed}
 use Rattle.claims.specs.Plain.{Past, asPast, plainStart}
 use Rattle.claims.specs.Runs as runs
 use Rattle.claims.specs.Runs.{feedOn, resetOn, Own, mixed, Call, after, afterAll, Allowed, AllAllowed, sizes, plainAfter, plainAll}

@@ -1,2 +1,4 @@
 pub mod Plain
 pub mod Runs
+pub mod Original
+pub mod Domain

@@ -10,9 +10,7 @@ use Rattle.store.specs.declared.Kind.the-variants.{Texture, Model}
 use Rattle.execute.specs.Control.{Seen}
 use Rattle.execute.specs.Kept.{Machine, machine}
 use Rattle.vpu.specs.Framing.{run}
-use Rattle.vpu.specs.Calls.{Outcome, feed, reset}
-use Rattle.vpu.proofs.Laws.{stateOf}
-use Rattle.vpu.proofs.Returned.{Small}
+use Rattle.vpu.specs.Calls.{Small, stateOf, Outcome, feed, reset}
 use Rattle.claims.specs.Plain.{Past, asPast, plainStart}
 
 -- ---- a call, on a state with its buffers

@@ -32,7 +32,7 @@ fn move_down(store: &mut [u32], to: usize, from: usize, end: usize)
 }
 
 // The words stand from `at` on afterwards; the rest stays.
-fn write_at(store: &mut [u32], at: usize, words: &[u32])
+pub fn write_at(store: &mut [u32], at: usize, words: &[u32])
     requires { ⌜ at + length (now words) ≤ length (now store) ⌝ }
     ensures { λ _. ⌜ now (store .exit) ≡ paste (now (store .entry)) at (now (words .entry)) (length (now (words .entry))) ⌝ }
 {

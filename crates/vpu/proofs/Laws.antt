@@ -1,15 +1,16 @@
 -- Laws of the machine's definitions that the proofs cite: a word, the loop over the words, the calls' outcomes. Assumes nothing.
-use Prim.Native.Nat.{ℕ, _+_, _-_, _/_, _%_, _<_, _≤_}
+use Prim.Native.Nat.{ℕ, zero, suc, _+_, _-_, _/_, _%_, _<_, _≤_}
 use mathlib.Core.Path.{_≡_, refl, sym, ap, _∙_}
 use mathlib.Core.Bool.{Bool, true, false, cond, and-eq-true-iff}
 use mathlib.Core.List.{List, [], _∷_, _++_}
 use native.Mathlib.Omega.{arith}
+use native.Mathlib.Nat.{add-zero, sub-zero, le-refl}
 use native.Mathlib.Numerals.{add-one}
 use borrow.Author.Tests.{eq-eqb, ne-eqb, eqb-true, leb-true, lt-ltb, le-ltb}
 use lib.IntN.{ℤ}
 use lib.Ieee.{Float}
-use lib.ListN.{length, drop, getD}
-use lib.Seq.{drop-cons, drop-length}
+use lib.ListN.{length, take, drop, getD, length-drop}
+use lib.Seq.{drop-cons, drop-length, getD-drop, take-take, length-take-le, paste, paste-zero, paste-suc}
 use Rattle.screen.specs.Plane.{planeBytes}
 use Rattle.screen.specs.Draw.{pixels}
 use Rattle.store.specs.Uploads.{mostWords}
@@ -24,21 +25,9 @@ use Rattle.execute.specs.Kept.{Machine, machine, asBox, Formed}
 use Rattle.execute.proofs.Formed.{Stands, execute-stands}
 use Rattle.vpu.specs.declared.frame.Frame.{Frame}
 use Rattle.vpu.specs.Framing.{word, header, gather, wordOn, run}
-use Rattle.vpu.specs.Frames.{frame, frameOf, withFrame, droppedFrame, wordFrame, wordArea, readyOf, Sound}
-use Rattle.vpu.specs.Calls.{outcome, lengthsOk, feed, cleared, reset}
-use Rattle.vpu.proofs.Words.{Case, zero-opcode, too-many, at-once, begins, last, more, case-of, idle, gathering, begun-fits, word-fits, word-begun, word-payload, area-header, area-payload, area-length, ready-idle, ready-whole, ready-wanting, case-zero, case-many, case-begun}
-
--- ---- the state and the lent memory, back from a machine
-abbrev pub stateOf : Machine → State
-stateOf m = record {
-  settings = m .control .settings;
-  textures = m .control .box .textures .slots;
-  models = m .control .box .models .slots;
-  opcode = m .control .opcode;
-  gathered = m .control .box .gathered;
-  wanted = m .control .wanted;
-  status = m .control .status;
-}
+use Rattle.vpu.specs.Frames.{frame, frameOf, withFrame, droppedFrame, wordFrame, wordArea, readyOf, betweenOf, gatheredFrame, Sound}
+use Rattle.vpu.specs.Calls.{stateOf, outcome, lengthsOk, feed, cleared, reset}
+use Rattle.vpu.proofs.Words.{Case, zero-opcode, too-many, at-once, begins, last, more, case-of, idle, gathering, begun-fits, word-fits, word-begun, word-payload, area-header, area-payload, area-length, ready-idle, ready-whole, ready-wanting, between-fits, case-zero, case-many, case-begun}
 
 -- machines that agree, part by part
 pub record Same (s : State) (P : List ℕ) (D : List ℤ) (F : List Float) (C T M : List ℕ) (s′ : State) (P′ : List ℕ) (D′ : List ℤ) (F′ : List Float) (C′ T′ M′ : List ℕ) : Type 0 where
@@ -248,6 +237,52 @@ module _ {ws : List ℕ} {m₀ : Machine} {s : State} {f : Frame} {P : List ℕ}
           same-models = m ∙ held .same-models;
           rest = rw x (rw e (rw (turned true r) at (run-turn asBox ws k _ _ is-more (held .rest))));
         })
+
+-- ---- a run of payload words, none of them the last, is copied at once
+-- the places of word n of a run: in the command area, in what is left of the words
+in-area : (g w n c : ℕ) → suc n ≤ w - 1 → g + w ≤ c → g + n < c
+in-area g w n c a h = omega arith
+
+in-rest : (k n l d : ℕ) → d ≡ l - k → k + suc n ≤ l → n < d
+in-rest k n l d e h = omega arith
+
+module _ {ws : List ℕ} {m₀ : Machine} {s : State} {f : Frame} {P : List ℕ} {D : List ℤ} {F : List Float} {C T M : List ℕ} {k : ℕ} (held : Held ws m₀ s f P D F C T M k)
+    (small : (i : ℕ) → i < length ws → getD ws i 0 < 4294967296) where
+  -- word by word
+  gathers : (n : ℕ) → n ≤ f .wanted - 1 → k + n ≤ length ws → Held ws m₀ s (gatheredFrame f n) P D F (paste C (f .gathered) (drop k ws) n) T M (k + n)
+  gathers zero a b = rw (← paste-zero C (f .gathered) (drop k ws), add-zero k, add-zero (f .gathered), sub-zero (f .wanted)) held
+  gathers (suc n) a b =
+      let is-more : k + n < length ws = omega (arith, b) in
+      let j : k + suc n ≡ k + n + 1 = omega arith in
+      let g : f .gathered + suc n ≡ f .gathered + n + 1 = omega arith in
+      let w : f .wanted - suc n ≡ f .wanted - n - 1 = omega arith in
+      let wants : f .wanted - n ≡ 0 → ⊥ = λ z. omega (arith, a) in
+      let wants-still : f .wanted - suc n ≡ 0 → ⊥ = λ z. omega (arith, a) in
+      rw j
+      (held-word (gathers n (omega (arith, a)) (omega (arith, b))) {w = getD ws (k + n) 0} is-more refl (rw (g, w) (sym (word-payload (gatheredFrame f n) (getD ws (k + n) 0) wants)))
+      (sym (area-payload (gatheredFrame f n) (getD ws (k + n) 0) (paste C (f .gathered) (drop k ws) n) wants
+      ∙ (rw (getD-drop k ws n 0) at (paste-suc C (f .gathered) (drop k ws) n 0 (in-area (f .gathered) (f .wanted) n (length C) a (held-takes held)) (in-rest k n (length ws) (length (drop k ws)) (length-drop k ws) b)))))
+      (small (k + n) is-more) (ready-wanting (gatheredFrame f (suc n)) wants-still))
+
+  module _ {n : ℕ} (is : n ≡ betweenOf f (length ws - k)) where
+    all-there : k + n ≤ length ws
+    all-there = omega (arith, between-fits f (length ws - k) n is .there, held .within)
+
+    run-length : length (take (k + n - k) (drop k ws)) ≡ n
+    run-length =
+        let same : k + n - k ≡ n = omega arith in
+        rw same (length-take-le n (drop k ws) (rw (length-drop k ws) (omega (arith, between-fits f (length ws - k) n is .there))))
+
+    -- what is asked to copy it
+    pub held-fits : length (take (k + n - k) (drop k ws)) ≤ f .wanted
+    held-fits = omega (arith, run-length, between-fits f (length ws - k) n is .before-last)
+
+    -- from what the callee ensures of its results
+    pub held-gathered : {f′ : Frame} {C′ run : List ℕ} → run ≡ take (k + n - k) (drop k ws)
+        → f′ ≡ gatheredFrame f (length run) → C′ ≡ paste C (f .gathered) run (length run) → Held ws m₀ s f′ P D F C′ T M (k + n)
+    held-gathered r x y =
+        let same : k + n - k ≡ n = omega arith in
+        rw (x, y, r, run-length, same, take-take n n (drop k ws) (le-refl n)) (gathers n (between-fits f (length ws - k) n is .before-last) all-there)
 
 -- ---- the lent lengths
 pub record Lengths (p d f c t m : ℕ) : Type 0 where

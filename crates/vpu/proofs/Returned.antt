@@ -19,13 +19,8 @@ use Rattle.execute.specs.Control.{Control, Step, execute}
 use Rattle.execute.specs.Kept.{Box, asBox, Machine, machine}
 use Rattle.execute.proofs.Formed.{Stands, execute-stands, execute-settings, execute-idle}
 use Rattle.vpu.specs.Framing.{still, dropped, begun, header, taken, gather, word, wordOn, run}
-use Rattle.vpu.specs.Calls.{Outcome, outcome, lengthsOk, feed}
-use Rattle.vpu.proofs.Laws.{stateOf, lengths}
-
--- words of 32 bits
-abbrev pub Small : List ℕ → Type 0
-Small [] = Unit {0}
-Small (w ∷ ws) = (w < 4294967296) × Small ws
+use Rattle.vpu.specs.Calls.{Small, stateOf, Outcome, outcome, lengthsOk, feed}
+use Rattle.vpu.proofs.Laws.{lengths}
 
 -- a control that is well formed, with stores of t and m words
 record Good (c : Control Box) (t m : ℕ) : Type 0 where

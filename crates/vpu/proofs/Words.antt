@@ -5,13 +5,14 @@ use mathlib.Core.Bool.{Bool, true, false, _||_, and-eq-true-iff, true≢false}
 use mathlib.Core.List.{List}
 use mathlib.Core.Logic.{_⊎_, inl, inr, ⊎-elim}
 use native.Mathlib.Omega.{arith}
+use native.Mathlib.Nat.{min-le-left, min-le-right}
 use borrow.Author.Tests.{eqb-true, eqb-false, eq-eqb, ne-eqb, ltb-true, ltb-false, lt-ltb, le-ltb, leb-true, le-leb}
 use lib.Dec.{eqb, ltb}
 use lib.ListN.{length, set, length-set}
 use Rattle.verdict.specs.declared.Reason.the-variants.{ZeroOpcode, CountTooLarge}
 use Rattle.state.specs.State.{mostPayload, begunOk}
 use Rattle.vpu.specs.declared.frame.Frame.{Frame}
-use Rattle.vpu.specs.Frames.{frame, droppedFrame, headerFrame, wordFrame, wordArea, readyOf}
+use Rattle.vpu.specs.Frames.{frame, droppedFrame, headerFrame, wordFrame, wordArea, readyOf, betweenOf}
 
 -- ---- no command is begun, or one that wants more words
 pub record Idle (opcode gathered wanted : ℕ) : Type 0 where
@@ -110,6 +111,14 @@ module _ (f : Frame) where
   pub ready-wanting : (f .wanted ≡ 0 → ⊥) → readyOf f ≡ false
   unfolding readyOf
   ready-wanting e = rw (ne-eqb (f .wanted) 0 e)
+
+-- a run leaves the last word wanted, and is no longer than what is there
+pub record Between (f : Frame) (left n : ℕ) : Type 0 where
+  pub before-last : n ≤ f .wanted - 1
+  pub there : n ≤ left
+
+pub between-fits : (f : Frame) (left n : ℕ) → n ≡ betweenOf f left → Between f left n
+between-fits f left n e = rw e (record { before-last = min-le-right left (f .wanted - 1); there = min-le-left left (f .wanted - 1) })
 
 -- ---- the cases of a word. Headers: dropped for either reason, run at once, begun. Payload: the last word, or one of those before
 pub data Case (f : Frame) (w : ℕ) : Type 0 where

@@ -1,7 +1,7 @@
 -- The public calls: what each answers, and the state and every lent element afterwards. Document 01, "Lent memory and call answers". Definitions only.
-use Prim.Native.Nat.{ℕ}
+use Prim.Native.Nat.{ℕ, _<_}
 use mathlib.Core.Bool.{Bool, cond, _&&_}
-use mathlib.Core.List.{List}
+use mathlib.Core.List.{List, [], _∷_}
 use lib.Dec.{eqb, leb}
 use lib.IntN.{ℤ}
 use lib.ListN.{length, replicate}
@@ -22,6 +22,23 @@ abbrev pub numberOf : Answer → ℕ
 numberOf Done = 0
 numberOf WrongLength = 1
 numberOf Malformed = 2
+
+-- words of 32 bits
+abbrev pub Small : List ℕ → Type 0
+Small [] = Unit {0}
+Small (w ∷ ws) = (w < 4294967296) × Small ws
+
+-- the state that a machine is with its lent memory
+abbrev pub stateOf : Machine → State
+stateOf m = record {
+  settings = m .control .settings;
+  textures = m .control .box .textures .slots;
+  models = m .control .box .models .slots;
+  opcode = m .control .opcode;
+  gathered = m .control .box .gathered;
+  wanted = m .control .wanted;
+  status = m .control .status;
+}
 
 -- a call's answer, and all that it leaves
 pub record Outcome : Type 0 where

@@ -1,5 +1,5 @@
 -- The framing's four numbers by themselves, as the code carries them through payload words; `Framing.antt` is what a word does. Definitions only.
-use Prim.Native.Nat.{ℕ, _+_, _-_, _/_, _%_}
+use Prim.Native.Nat.{ℕ, _+_, _-_, _/_, _%_, min}
 use mathlib.Core.Path.{_≡_}
 use mathlib.Core.Bool.{Bool, true, false, cond, not}
 use mathlib.Core.List.{List}
@@ -47,6 +47,13 @@ wordFrame f w = cond (eqb (f .wanted) 0) (headerFrame f w) (frame (f .opcode) (f
 
 unfoldable pub wordArea : Frame → ℕ → List ℕ → List ℕ
 wordArea f w area = cond (eqb (f .wanted) 0) area (set area (f .gathered) w)
+
+-- of so many words, those that are payload before the last one wanted; and the frame after n payload words
+abbrev pub betweenOf : Frame → ℕ → ℕ
+betweenOf f left = min left (f .wanted - 1)
+
+abbrev pub gatheredFrame : Frame → ℕ → Frame
+gatheredFrame f n = frame (f .opcode) (f .gathered + n) (f .wanted - n) (f .status)
 
 -- a command is begun and its payload is complete
 unfoldable pub readyOf : Frame → Bool

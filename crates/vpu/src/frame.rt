@@ -7,7 +7,8 @@ use verdict::Verdict;
 ghost use mathlib.Core.Path.{_≡_};
 ghost use Prim.Native.Nat.{_+_, _≤_};
 ghost use lib.ListN.{length};
-ghost use Rattle.vpu.specs.Frames.{frameOf, withFrame, droppedFrame, headerFrame, wordFrame, wordArea, readyOf};
+ghost use lib.Seq.{paste};
+ghost use Rattle.vpu.specs.Frames.{frameOf, withFrame, droppedFrame, headerFrame, wordFrame, wordArea, readyOf, betweenOf, gatheredFrame};
 ghost use Rattle.state.specs.State.{mostPayload};
 
 pub struct Frame {
@@ -100,4 +101,36 @@ pub fn ready(f: Frame) -> bool
         return f.opcode != 0;
     }
     false
+}
+
+// How many of the words left can be payload and leave the command wanting its last: they make a run.
+pub fn between(f: Frame, left: usize) -> usize
+    ensures { λ r. ⌜ r ≡ betweenOf f left ⌝ }
+{
+    if f.wanted < 2 {
+        return 0;
+    }
+    let most = (f.wanted - 1) as usize;
+    if left < most {
+        return left;
+    }
+    most
+}
+
+// A run of payload words, copied at once.
+pub fn gather(f: Frame, words: &[u32], command: &mut [u32]) -> Frame
+    requires { ⌜ length (now words) ≤ f .wanted ⌝ }
+    requires { ⌜ f .gathered + f .wanted ≤ length (now command) ⌝ }
+    requires { ⌜ length (now command) ≡ mostPayload ⌝ }
+    ensures { λ r. ⌜ r ≡ gatheredFrame f (length (now (words .entry))) ⌝ }
+    ensures { λ _. ⌜ now (command .exit) ≡ paste (now (command .entry)) (f .gathered) (now (words .entry)) (length (now (words .entry))) ⌝ }
+{
+    store::words::write_at(command, f.gathered as usize, words);
+    let n = words.len() as u32;
+    Frame {
+        opcode: f.opcode,
+        gathered: f.gathered + n,
+        wanted: f.wanted - n,
+        status: f.status,
+    }
 }

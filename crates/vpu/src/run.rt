@@ -1,4 +1,4 @@
-// The loop over the words: a payload word moves four numbers, a whole command the state.
+// The loop over the words: payload is copied in runs and moves four numbers, a whole command the state.
 use crate::frame;
 use state::State;
 ghost use mathlib.Core.Path.{_≡_};
@@ -39,6 +39,10 @@ pub fn run_words(
                 models,
             );
             f = frame::frame_of(s);
+        } else {
+            let n = frame::between(f, words.len() - k);
+            f = frame::gather(f, &words[k..k + n], command);
+            k += n;
         }
     }
     frame::with_frame(s, f)

@@ -10,10 +10,10 @@ use lib.Ieee.{Float}
 use Rattle.state.specs.State.{wellFormed}
 use Rattle.state.specs.declared.State.{State}
 use Rattle.execute.specs.Kept.{machine}
-use Rattle.vpu.specs.Calls.{Outcome, outcome, lengthsOk, feed}
+use Rattle.vpu.specs.Calls.{Outcome, outcome, stateOf, lengthsOk, feed}
 use Rattle.vpu.proofs.Laws.{feed-wrong, feed-malformed, feed-done}
 use Rattle.vpu_c.specs.Plain.{stateIn, stateOut, switchesOk}
-use Rattle.vpu_c.specs.Calls.{Handed, handed, stateOf, putOut, feedC}
+use Rattle.vpu_c.specs.Calls.{Handed, handed, putOut, feedC}
 use Rattle.vpu_c.specs.declared.plain.VpuState.{VpuState}
 use Rattle.vpu_c.proofs.Back.{in-out, out-ok, out-in}
 

@@ -6,8 +6,6 @@ use lib.IntN.{ℤ}
 use lib.ListN.{length}
 use lib.Ieee.{Float}
 use Rattle.screen.specs.Plane.{Answered}
-use Rattle.state.specs.declared.State.{State}
-use Rattle.execute.specs.Kept.{Machine}
 use Rattle.vpu.specs.Calls as vpu
 use Rattle.vpu_c.specs.Plain.{stateIn, stateOut, switchesOk}
 use Rattle.vpu_c.specs.declared.plain.VpuState.{VpuState}
@@ -27,22 +25,10 @@ pub record Handed : Type 0 where
 abbrev pub handed : ℕ → VpuState → List ℕ → List ℤ → List Float → List ℕ → List ℕ → List ℕ → Handed
 handed n v P D F C T M = record { answer = n; state = v; plane = P; depth = D; depthF = F; command = C; textures = T; models = M }
 
--- the state of a machine, without what is lent
-abbrev pub stateOf : Machine → State
-stateOf m = record {
-  settings = m .control .settings;
-  textures = m .control .box .textures .slots;
-  models = m .control .box .models .slots;
-  opcode = m .control .opcode;
-  gathered = m .control .box .gathered;
-  wanted = m .control .wanted;
-  status = m .control .status;
-}
-
 -- what the machine's own call leaves, with the state put out as plain data
 abbrev pub putOut : vpu.Outcome → Handed
 putOut o =
-    handed (o .answer) (stateOut (stateOf (o .machine))) (o .machine .picture .plane) (o .machine .picture .depth) (o .machine .picture .depthF)
+    handed (o .answer) (stateOut (vpu.stateOf (o .machine))) (o .machine .picture .plane) (o .machine .picture .depth) (o .machine .picture .depthF)
     (o .machine .control .box .area) (o .machine .control .box .textures .words) (o .machine .control .box .models .words)
 
 -- `vpu_reset`

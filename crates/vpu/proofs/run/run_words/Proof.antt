@@ -5,7 +5,7 @@ use native.Mathlib.Omega.{arith}
 use borrow.Author.Needs.{needs}
 use lib.ListN.{length, length-map}
 use Rattle.execute.specs.Kept.{machine}
-use Rattle.vpu.proofs.Laws.{Held, held-start, held-takes, held-word, held-runs, held-command, held-end}
+use Rattle.vpu.proofs.Laws.{Held, held-start, held-takes, held-word, held-runs, held-command, held-fits, held-gathered, held-end}
 use Rattle.vpu.proofs.run.run_words.Statement.{statement}
 use Rattle.vpu.proofs.run.run_words.Tie as tie
 
@@ -88,15 +88,62 @@ loop-again c =
     (sym (f .before .before .ready .ensures) ∙ f .before .if1 .taken) (f .with-frame .ensures) (x .execute .ensures)
     (kept .0) (kept .1 .0) (kept .1 .1 .0) (kept .1 .1 .1 .1 .0) (kept .1 .1 .1 .1 .1 .0) (long-textures f) (long-models f) (c .frame-of2 .ensures)
 
+-- the turn, where a word completes no command
+abbrev begun : tie.Else1 Inv-loop μ-loop → tie.In-loop Inv-loop μ-loop
+begun c = turn (took (c .before))
+
+abbrev read : tie.Else1 Inv-loop μ-loop → tie.After-shared-slice-known2 Inv-loop μ-loop
+read c = took (c .before) .before .before
+
+sub-between : tie.Need-sub-between Inv-loop μ-loop
+sub-between c = omega (arith, begun c)
+
+between-requires : tie.Need-between-requires Inv-loop μ-loop
+between-requires c κs = tt
+
+add-gather : tie.Need-add-gather Inv-loop μ-loop
+add-gather c = omega (arith, begun (c .before), read (c .before), c .between .ensures)
+
+mul-gather : tie.Need-mul-gather Inv-loop μ-loop
+mul-gather c = omega arith
+
+sub-gather : tie.Need-sub-gather Inv-loop μ-loop
+sub-gather c = omega arith
+
+part-gather-start : tie.Need-part-gather-start Inv-loop μ-loop
+part-gather-start c = omega arith
+
+part-gather-end : tie.Need-part-gather-end Inv-loop μ-loop
+part-gather-end c = omega (arith, begun (c .before), read (c .before), c .between .ensures)
+
+gather-requires : tie.Need-gather-requires Inv-loop μ-loop
+gather-requires c κs =
+    let e = c .before .before .before in
+    let t = took (e .before) in
+    let i = turn t in
+    let h = held-word (i .before .loop .inv) (i .loop-test .taken) refl (t .take-word .ensures .0) (t .take-word .ensures .1)
+    (omega (arith, t .before .before .shared-slice-known2 .given (i .before .loop .k))) (sym (e .before .ready .ensures) ∙ e .if1 .left) in
+    (held-fits h (λ i l. omega (arith, t .before .before .shared-slice-known2 .given i)) (c .before .before .between .ensures), (held-takes h, h .sound .of-command))
+
+add-k-2 : tie.Need-add-k-2 Inv-loop μ-loop
+add-k-2 c =
+    let b = c .before .before .before .before .before in
+    omega (arith, begun (b .before), read (b .before), b .between .ensures)
+
 loop-less-2 : tie.Need-loop-less-2 Inv-loop μ-loop
-loop-less-2 c = omega (arith, turn (took (c .before)))
+loop-less-2 c =
+    let b = c .before .before .before .before .before in
+    omega (arith, begun (b .before), read (b .before), b .between .ensures)
 
 loop-again-2 : tie.Need-loop-again-2 Inv-loop μ-loop
 loop-again-2 c =
-    let t = took (c .before) in
+    let b = c .before .before .before .before .before in
+    let e = b .before in
+    let t = took (e .before) in
     let i = turn t in
-    held-word (i .before .loop .inv) (i .loop-test .taken) refl (t .take-word .ensures .0) (t .take-word .ensures .1)
-    (omega (arith, t .before .before .shared-slice-known2 .given (i .before .loop .k))) (sym (c .before .ready .ensures) ∙ c .if1 .left)
+    let h = held-word (i .before .loop .inv) (i .loop-test .taken) refl (t .take-word .ensures .0) (t .take-word .ensures .1)
+    (omega (arith, t .before .before .shared-slice-known2 .given (i .before .loop .k))) (sym (e .before .ready .ensures) ∙ e .if1 .left) in
+    held-gathered h (λ i l. omega (arith, t .before .before .shared-slice-known2 .given i)) (b .between .ensures) refl (c .before .before .gather .ensures .0) (c .before .before .gather .ensures .1)
 
 with-frame-requires-2 : tie.Need-with-frame-requires-2 Inv-loop μ-loop
 with-frame-requires-2 c κs = tt
@@ -140,6 +187,15 @@ run-words-spec =
     frame-of-requires-2
     loop-less
     loop-again
+    sub-between
+    between-requires
+    add-gather
+    mul-gather
+    sub-gather
+    part-gather-start
+    part-gather-end
+    gather-requires
+    add-k-2
     loop-less-2
     loop-again-2
     with-frame-requires-2
