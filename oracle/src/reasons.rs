@@ -3,6 +3,7 @@
 
 use crate::kept::List;
 use crate::original::{call_inverse_transpose_3x3, call_multiply_matrix, call_transform_matrix, Vpu};
+use crate::shapes::out_of_reach;
 
 #[derive(Clone, Copy, Debug, PartialEq, Eq, PartialOrd, Ord)]
 pub enum Reason {
@@ -101,7 +102,7 @@ impl Reader<'_> {
             0x01 => when(p[0] > 1 || p[1] > 1, OutOfRange),
             0x02 => when(p[0] > 2, OutOfRange).or_else(|| finite(&p[1..])),
             0x04 => when(p[0] > 3, OutOfRange),
-            0x12 => flat(p),
+            0x12 => when(out_of_reach(p).is_some(), OutOfRange),
             0x14 => self.transformed(p, 4),
             0x15 => when(p[0] > 7 || p[1] > 1, OutOfRange).or_else(|| finite(&p[2..])),
             0x16 => self.invertible().or_else(|| self.transformed(p, 7)),
@@ -171,9 +172,4 @@ impl Reader<'_> {
         let record = |record: &[u32]| self.textured_lit(&[&record[..1], &p[1..], &record[1..]].concat());
         model.words.chunks(28).find_map(record)
     }
-}
-
-fn flat(p: &[u32]) -> Option<Reason> {
-    let beyond = |word: &u32| !(-8192..=8192).contains(&(*word as i32));
-    when(p[..9].chunks(3).any(|corner| corner[..2].iter().any(beyond)), OutOfRange)
 }

@@ -3,6 +3,7 @@
 use crate::port::Port;
 use vpu_oracle::digests::bits;
 use vpu_oracle::judge::{Judge, Start};
+use vpu_oracle::original::Vpu;
 use vpu_oracle::streams::Stream;
 use vpu_oracle::watch::Watch;
 
@@ -43,12 +44,7 @@ impl Sides {
         if port.state.status != judge.status {
             return Some(format!("status {:08x}, not {:08x}", port.state.status, judge.status));
         }
-        let original = &judge.original;
-        first_other("plane", port.plane(), original.plane(), |byte| *byte as u32)
-            .or_else(|| first_other("depth", port.depth(), original.depth(), |depth| *depth as u32))
-            .or_else(|| {
-                first_other("float depth", port.depth_f32(), original.depth_f32(), |depth| bits(*depth))
-            })
+        other_picture(port, &judge.original)
             .or_else(|| first_other("state", &port.state.words(), &judge.state_words(), |word| *word))
             .or_else(|| self.other_store(0, "texture store"))
             .or_else(|| self.other_store(1, "model store"))
@@ -77,6 +73,13 @@ impl Sides {
 
 pub fn other_answer(expected: u32, answer: u32) -> Option<String> {
     (answer != expected).then(|| format!("the answer is {answer}, not {expected}"))
+}
+
+/// In plane or depths.
+pub fn other_picture(port: &Port, original: &Vpu) -> Option<String> {
+    first_other("plane", port.plane(), original.plane(), |byte| *byte as u32)
+        .or_else(|| first_other("depth", port.depth(), original.depth(), |depth| *depth as u32))
+        .or_else(|| first_other("float depth", port.depth_f32(), original.depth_f32(), |depth| bits(*depth)))
 }
 
 /// The first place where two memories differ. Nearly always there is none, so that is found out first, without a branch.
