@@ -189,7 +189,8 @@ const HEAD: &str = "# How long it takes beside the original
 Made by `oracle/bench >docs/BENCH.md`. Port and original stand in one process and are fed the same words; times are processor time.
 A pass is as many rounds as take at least 20 milliseconds, and a figure is the best pass. The sides take turns, pass by pass, and after
 each work plane, both depths and status have to be the same. What a work uploads or sets first, and clears of the depths between rounds, are not
-counted. All memory that a work uses has been touched before, so that the first use of a page is not counted.
+counted. All memory that a work uses has been touched before, so that the first use of a page is not counted; what the original allocates for
+each command is.
 ";
 
 const ABOUT_WORKS: &str = "Triangles fill half their box, wherever on the screen, and each is nearer than those before it, so that it is seen: 100 in a

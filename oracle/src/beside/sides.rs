@@ -121,7 +121,7 @@ pub fn smallest(sides: &mut Sides, start: Start, calls: &[Vec<u32>]) -> Vec<Vec<
         return calls.to_vec();
     }
     let stream = Stream::framed(calls.concat());
-    let ends = stream.headers[1..].iter().copied().chain([stream.words.len()]);
+    let ends = stream.headers.iter().skip(1).copied().chain([stream.words.len()]);
     let mut commands: Vec<&[u32]> =
         stream.headers.iter().zip(ends).map(|(start, end)| &stream.words[*start..end]).collect();
     for place in (0..commands.len()).rev() {
