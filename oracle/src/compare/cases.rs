@@ -34,7 +34,7 @@ pub fn case(seed: u64, index: u64) -> Case {
     }
     let start = Start { stores: stores(profile, &mut random), status: status(&mut random) };
     let calls = cut(&stream, &mut random);
-    let tries = if random.chance(40) { 1 + random.below(3) } else { 0 };
+    let tries = if random.chance(60) { 1 + random.below(3) } else { 0 };
     let tries = (0..tries).map(|_| random.below(calls.len() as u32) as usize).collect();
     Case { start, calls, tries, random }
 }

@@ -91,24 +91,35 @@ fn too_many(state: &mut State, _: &mut Lengths, random: &mut Random) -> bool {
     begin(state, 1 + random.below(255), random.pick(&pairs))
 }
 
-/// The slots of either kind, and how many are held.
-fn either<'a>(state: &'a mut State, random: &mut Random) -> (&'a mut [Slot; 64], usize) {
-    let slots = if random.chance(50) { &mut state.textures } else { &mut state.models };
-    let held = slots.iter().filter(|slot| slot.held != 0).count();
-    (slots, held)
+fn held(slots: &[Slot; 64]) -> usize {
+    slots.iter().filter(|slot| slot.held != 0).count()
 }
 
-fn hole(state: &mut State, _: &mut Lengths, random: &mut Random) -> bool {
-    let (slots, held) = either(state, random);
-    let possible = held < 63;
-    if possible {
-        slots[held + 1] = Slot { held: 1, number: 0xfeed_0000, width: 1, height: 0, start: 0 };
+/// The slots of either kind, one with at least so many held where there is one, and how many are held.
+fn either<'a>(state: &'a mut State, least: usize, random: &mut Random) -> (&'a mut [Slot; 64], usize) {
+    let [textures, models] = [held(&state.textures), held(&state.models)];
+    if models < least || textures >= least && random.chance(50) {
+        (&mut state.textures, textures)
+    } else {
+        (&mut state.models, models)
     }
-    possible
+}
+
+/// A slot that would be right one place before.
+fn hole(state: &mut State, _: &mut Lengths, random: &mut Random) -> bool {
+    let [textures, models] = words_held(state);
+    let height = if random.chance(50) { 1 } else { 0 };
+    let (slots, start) =
+        if height == 1 { (&mut state.textures, textures) } else { (&mut state.models, models) };
+    let Some(unused) = slots.iter().position(|slot| slot.held == 0).filter(|place| *place < 63) else {
+        return false;
+    };
+    slots[unused + 1] = Slot { held: 1, number: 0xfeed_0000, width: 1, height, start };
+    true
 }
 
 fn equal_numbers(state: &mut State, _: &mut Lengths, random: &mut Random) -> bool {
-    let (slots, held) = either(state, random);
+    let (slots, held) = either(state, 2, random);
     if held < 2 {
         return false;
     }
@@ -117,13 +128,15 @@ fn equal_numbers(state: &mut State, _: &mut Lengths, random: &mut Random) -> boo
     true
 }
 
+/// In the last slot, so that no other area is out of place by it.
 fn side(state: &mut State, _: &mut Lengths, random: &mut Random) -> bool {
-    let texture = &mut state.textures[0];
-    let model = &mut state.models[0];
-    match random.below(3) {
-        0 if texture.held == 1 => texture.width = random.pick(&[0, 1025, u32::MAX]),
-        1 if texture.held == 1 => texture.height = random.pick(&[0, 1025, u32::MAX]),
-        2 if model.held == 1 => model.width = random.pick(&[0, 18_725, u32::MAX]),
+    let last = |slots: &[Slot; 64]| slots.iter().rposition(|slot| slot.held == 1);
+    let texture = last(&state.textures).map(|place| &mut state.textures[place]);
+    let model = last(&state.models).map(|place| &mut state.models[place]);
+    match (random.below(3), texture, model) {
+        (0, Some(texture), _) => texture.width = random.pick(&[0, 1025, u32::MAX]),
+        (1, Some(texture), _) => texture.height = random.pick(&[0, 1025, u32::MAX]),
+        (2, _, Some(model)) => model.width = random.pick(&[0, 18_725, u32::MAX]),
         _ => return false,
     }
     true
@@ -136,7 +149,7 @@ fn model_height(state: &mut State, _: &mut Lengths, random: &mut Random) -> bool
 }
 
 fn start(state: &mut State, _: &mut Lengths, random: &mut Random) -> bool {
-    let (slots, held) = either(state, random);
+    let (slots, held) = either(state, 1, random);
     if held == 0 {
         return false;
     }
@@ -145,18 +158,22 @@ fn start(state: &mut State, _: &mut Lengths, random: &mut Random) -> bool {
     true
 }
 
+/// Words of the textures and of the models that are held.
+fn words_held(state: &State) -> [u32; 2] {
+    let textures = state.textures.iter().map(|slot| (slot.width * slot.height).div_ceil(2)).sum();
+    [textures, state.models.iter().map(|slot| 28 * slot.width).sum()]
+}
+
 /// The store is lent one word short of what is held.
 fn beyond(state: &mut State, lengths: &mut Lengths, random: &mut Random) -> bool {
-    let texture_words: u32 = state.textures.iter().map(|slot| (slot.width * slot.height).div_ceil(2)).sum();
-    let model_words: u32 = state.models.iter().map(|slot| 28 * slot.width).sum();
     let place = random.below(2) as usize;
-    let used = [texture_words, model_words][place] as usize;
+    let used = words_held(state)[place] as usize;
     lengths[4 + place] = used.saturating_sub(1);
     used > 0
 }
 
 fn unused(state: &mut State, _: &mut Lengths, random: &mut Random) -> bool {
-    let (slots, held) = either(state, random);
+    let (slots, held) = either(state, 0, random);
     if held == 64 {
         return false;
     }
