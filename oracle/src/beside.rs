@@ -2,84 +2,40 @@
 //! after each call, every NaN as one value. Linked with the archive of the crate `vpu_c`; `oracle/streams` builds it.
 //!   streams --profile P|all [--count N] [--seed S] [--out FILE]
 //!   streams --singles N [--seed S] [--out FILE]
-//!   streams time
 
 #[allow(dead_code)]
 mod arguments;
+#[path = "beside/differences.rs"]
+mod differences;
 #[path = "beside/port.rs"]
 mod port;
 #[path = "beside/sides.rs"]
 mod sides;
-#[path = "beside/timing.rs"]
-mod timing;
 
 use arguments::Arguments;
-use sides::{smallest, Sides};
-use vpu_oracle::digests::little_endian;
+use differences::Differences;
+use sides::{run as run_calls, Sides};
+use vpu_oracle::judge::Start;
 use vpu_oracle::profiles::{self, Profile};
 use vpu_oracle::random::Random;
 use vpu_oracle::singles::{single, KINDS};
 use vpu_oracle::watch::Watch;
-use vpu_oracle::words::encode_calls;
 
-/// Enough for the profile `largest`, whose old upload counts beside the new one.
-const STREAM_STORE: usize = 1_200_000;
-const SINGLE_STORE: usize = 65_536;
+const SINGLE: Start = Start { stores: [65_536; 2], status: 0 };
 
 /// Single draws on the same machine, at most.
 const BATCH: usize = 16;
 
-/// What was seen to differ, and the shortest stream that shows it.
-#[derive(Default)]
-struct Differences {
-    count: u64,
-    shortest: Vec<Vec<u32>>,
-    text: String,
-}
-
-impl Differences {
-    /// `calls` are those from the reset to the difference.
-    fn add(&mut self, calls: &[Vec<u32>], store: usize, what: String) {
-        self.count += 1;
-        if self.count > 20 {
-            return;
-        }
-        let calls = smallest(calls, store);
-        if self.count == 1 || encode_calls(&calls).len() < encode_calls(&self.shortest).len() {
-            self.shortest = calls;
-            self.text = what;
-        }
-    }
-
-    /// Whether there was none; the shortest stream goes to the file.
-    fn report(&self, file: &str) -> Result<bool, String> {
-        if self.count > 0 {
-            let bytes = little_endian(&encode_calls(&self.shortest));
-            std::fs::write(file, bytes).map_err(|error| format!("{file}: {error}"))?;
-            println!("  {}\n  a stream that shows a difference: {file}", self.text);
-        }
-        Ok(self.count == 0)
-    }
-}
-
-/// Feeds one stream; the first difference ends it.
-fn compare_stream(calls: &[Vec<u32>], watch: &mut Watch, differences: &mut Differences) {
-    let mut sides = Sides::new(STREAM_STORE);
-    for (place, call) in calls.iter().enumerate() {
-        let last = place + 1 == calls.len();
-        let what = sides.feed(call, watch).or_else(|| sides.wrong_pixel().filter(|_| last));
-        if let Some(what) = what {
-            return differences.add(&calls[..=place], STREAM_STORE, what);
-        }
-    }
-}
-
 fn compare_profile(profile: &Profile, seed: u64, count: u64, file: &str) -> Result<bool, String> {
-    let (mut watch, mut differences) = (Watch::default(), Differences::default());
+    let (mut watch, mut differences, mut sides) = (Watch::default(), Differences::default(), Sides::new());
+    let start = Start { stores: [profile.store(); 2], status: 0 };
     for index in 0..count {
-        compare_stream(&profile.calls(seed, index), &mut watch, &mut differences);
+        let calls = profile.calls(seed, index);
+        if let Some((place, what)) = run_calls(&mut sides, start, &calls, &mut watch) {
+            differences.add(&mut sides, start, &calls[..=place], what);
+        }
     }
-    let Watch { commands, draws, changed } = watch;
+    let Watch { commands, draws, changed, .. } = watch;
     print!("{:12} {count:6} streams, {commands:8} commands, {draws:8} draws, ", profile.name);
     println!("{changed:8} changed a pixel, {} differences", differences.count);
     differences.report(file)
@@ -129,30 +85,31 @@ const CLEAR: [u32; 4] = [0x0400_0003, 3, 0x1357_9b00, 0];
 fn compare_single(sides: &mut Sides, settings: &[u32], draw: &[u32]) -> (Option<String>, bool) {
     let watch = &mut Watch::default();
     let answer = sides.prepare(settings, watch);
-    let before = sides.original.plane().to_vec();
-    let what = answer.or_else(|| sides.feed(draw, watch)).or_else(|| sides.wrong_pixel());
-    (what, before != sides.original.plane())
+    let before = sides.judge.original.plane().to_vec();
+    let what = answer.or_else(|| sides.feed(draw, watch)).or_else(|| sides.other_pixel());
+    (what, before != sides.judge.original.plane())
 }
 
 fn compare_singles(arguments: &Arguments, file: &str) -> Result<bool, String> {
     let (count, seed) = (arguments.number("singles", 0)?, arguments.number("seed", 1)?);
     let (mut kinds, mut differences) = (Kinds::default(), Differences::default());
     let mut random = Random::named("machines", seed, 0);
-    let (mut sides, mut calls) = (Sides::new(SINGLE_STORE), Vec::new());
+    let (mut sides, mut calls) = (Sides::new(), Vec::new());
     for index in 0..count {
         let single = single(seed, index);
-        if calls.len() >= 2 * BATCH || random.chance(50) {
-            sides.reset();
+        let mut what = None;
+        if index == 0 || calls.len() >= 2 * BATCH || random.chance(50) {
+            what = sides.reset(SINGLE);
             calls.clear();
         }
         let clear = if calls.is_empty() { &[][..] } else { &CLEAR };
         calls.extend([[clear, &single.settings].concat(), single.draw]);
         let [.., settings, draw] = &calls[..] else { continue };
-        let (what, changed) = compare_single(&mut sides, settings, draw);
+        let (other, changed) = compare_single(&mut sides, settings, draw);
         kinds.add(single.opcode, changed);
-        if let Some(what) = what {
-            differences.add(&calls, SINGLE_STORE, what);
-            sides.reset();
+        if let Some(what) = what.or(other) {
+            differences.add(&mut sides, SINGLE, &calls, what);
+            sides.reset(SINGLE);
             calls.clear();
         }
     }
@@ -163,10 +120,6 @@ fn compare_singles(arguments: &Arguments, file: &str) -> Result<bool, String> {
 
 fn run() -> Result<bool, String> {
     let texts: Vec<String> = std::env::args().skip(1).collect();
-    if texts == ["time"] {
-        timing::run();
-        return Ok(true);
-    }
     let arguments = Arguments::parse(&texts)?;
     arguments.expect(0, &["profile", "count", "seed", "singles", "out"])?;
     let file = arguments.wanted("out")?;

@@ -3,7 +3,7 @@
 use crate::floats;
 use crate::maker::Maker;
 use crate::random::Random;
-use crate::streams::Command;
+use crate::streams::{Command, Stream};
 
 /// Values at and beyond the ends of the ranges that the commands test.
 const BOUNDARIES: [u32; 12] = [0, 1, 2, 3, 7, 8, 9, 1025, 0x4000_0001, 0x7fff_ffff, 0x8000_0000, 0xffff_ffff];
@@ -76,4 +76,30 @@ pub fn wrong_model(maker: &mut Maker) -> Command {
 
 pub fn unknown_opcode(random: &mut Random) -> u8 {
     random.pick(&UNKNOWN_OPCODES)
+}
+
+/// Up to three words anywhere are lost, too many, or others; what follows may then be framed differently.
+pub fn spoil(stream: &mut Stream, random: &mut Random) {
+    for _ in 0..1 + random.below(3) {
+        let place = random.below(stream.words.len() as u32) as usize;
+        match random.below(4) {
+            0 if stream.words.len() > 1 => _ = stream.words.remove(place),
+            1 => stream.words.insert(place, random.word()),
+            2 => stream.words[place] = random.word(),
+            _ => stream.words[place] ^= 1 << random.below(32),
+        }
+    }
+}
+
+/// From some command on, one of the matrices has no inverse or makes positions overflow.
+pub fn odd_matrix(stream: &mut Stream, random: &mut Random) {
+    let matrix = if random.chance(50) { floats::singular(random) } else { floats::scale(f32::MAX) };
+    let mut inserted = Stream::default();
+    inserted.send(&Command::matrix(random.below(3), &matrix));
+    let place = random.below(stream.headers.len() as u32) as usize;
+    let at = stream.headers[place];
+    let by = inserted.words.len();
+    stream.words.splice(at..at, inserted.words);
+    stream.headers.insert(place, at);
+    stream.headers[place + 1..].iter_mut().for_each(|header| *header += by);
 }

@@ -4,6 +4,7 @@ use crate::cuts::Cut;
 use crate::maker::Maker;
 use crate::random::Random;
 use crate::steps;
+use crate::streams::Stream;
 
 pub type Step = fn(&mut Maker);
 
@@ -82,6 +83,15 @@ pub fn named(name: &str) -> Result<Vec<&'static Profile>, String> {
 }
 
 impl Profile {
+    /// Words that either store needs, at most: an old upload counts beside the new one.
+    pub fn store(&self) -> usize {
+        if self.name == "largest" {
+            1_200_000
+        } else {
+            65_536
+        }
+    }
+
     /// Some streams are short: after its first refusal a stream no longer shows later ones in the status.
     fn steps(&self, random: &mut Random) -> u32 {
         if random.chance(25) {
@@ -91,8 +101,8 @@ impl Profile {
         }
     }
 
-    /// The calls of stream number `index` under `seed`.
-    pub fn calls(&self, seed: u64, index: u64) -> Vec<Vec<u32>> {
+    /// Stream number `index` under `seed`, not yet cut, and the generator as the stream leaves it.
+    pub fn stream(&self, seed: u64, index: u64) -> (Stream, Random) {
         let mut maker = Maker::new(Random::named(self.name, seed, index));
         if maker.random.chance(70) {
             maker.any_camera();
@@ -103,11 +113,17 @@ impl Profile {
         if ["damaged", "framing", "mixed"].contains(&self.name) && maker.random.chance(70) {
             steps::broken_end(&mut maker);
         }
+        (maker.stream, maker.random)
+    }
+
+    /// The calls of stream number `index` under `seed`.
+    pub fn calls(&self, seed: u64, index: u64) -> Vec<Vec<u32>> {
+        let (stream, mut random) = self.stream(seed, index);
         let cut = if self.name == "cuts" {
             Cut::ALL[index as usize % Cut::ALL.len()]
         } else {
-            Cut::usual(&mut maker.random)
+            Cut::usual(&mut random)
         };
-        cut.apply(&maker.stream, &mut maker.random)
+        cut.apply(&stream, &mut random)
     }
 }

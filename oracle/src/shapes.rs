@@ -117,7 +117,7 @@ pub fn flat_beyond(seed: u64, index: u64) -> [u32; 11] {
 }
 
 /// The first coordinate out of reach, in payload order: document 01's rule for command 12.
-pub fn out_of_reach(words: &[u32; 11]) -> Option<usize> {
+pub fn out_of_reach(words: &[u32]) -> Option<usize> {
     let beyond = |at: &usize| (words[*at] as i32).unsigned_abs() > FLAT_REACH as u32;
     COORDINATES.into_iter().find(beyond)
 }

@@ -1,6 +1,6 @@
 //! Draws triangles with the proved functions and with the original, in one process, and compares plane and depths,
-//! every NaN as one value. `triangles [--count N] [--seed S] [--only KIND]`, or `triangles time [--only KIND]`; linked
-//! with the archive of the crate `triangle_c`.
+//! every NaN as one value. `triangles [--count N] [--seed S] [--only KIND]`; linked with the archive of the crate
+//! `triangle_c`.
 
 #[allow(dead_code)]
 mod arguments;
@@ -53,8 +53,6 @@ extern "C" {
         color: *const f32,
         color_length: usize,
     );
-    /// Of C's library: what this process has used of a processor, in millionths of a second.
-    fn clock() -> i64;
 }
 
 /// The buffers that the port draws on.
@@ -249,86 +247,8 @@ fn run_compare(arguments: &Arguments) -> Result<bool, String> {
     Ok(agreed)
 }
 
-/// Triangles that are timed, in parts that begin with cleared buffers.
-const TIMED: u64 = 10_000;
-const PART: u64 = 100;
-const RUNS: usize = 3;
-
-/// Width and height of the box around a triangle.
-const BOXES: [(i32, i32); 3] = [(225, 170), (50, 40), (10, 6)];
-
-/// A triangle that fills half its box, nearer than those before it in its part.
-fn timed(kind: Kind, (width, height): (i32, i32), index: u64) -> Triangle {
-    let random = &mut Random::named("timed", width as u64, index);
-    let (x, y) = (random.between(0, 319 - width), random.between(0, 239 - height));
-    let (across, down) = (random.between(0, width), random.between(0, height));
-    let corners = [[x, y], [x + width, y + down], [x + across, y + height]];
-    let nearer = (index % PART) as i32;
-    if kind == Kind::Flat {
-        let depth = |k: i32| (k - 10 * nearer) as u32;
-        let [a, b, c] = corners.map(|corner| corner.map(|value| value as u32));
-        let rgb = random.word();
-        let words = [a[0], a[1], depth(0), b[0], b[1], depth(1), c[0], c[1], depth(2), rgb, 200];
-        return Triangle::Words(words);
-    }
-    let corners = corners.map(|[x, y]| {
-        let (w, mut floats) = (random.float(0.5, 2.0), random.floats::<16>(0.0, 1.0));
-        floats[0] = (x as f32 / 160.0 - 1.0) * w;
-        floats[1] = (1.0 - y as f32 / 120.0) * w;
-        floats[2] = (0.99 - nearer as f32 / 110.0) * w;
-        floats[3] = w;
-        floats
-    });
-    Triangle::Floats(Shape { corners, color: random.floats(0.0, 1.0) })
-}
-
-/// Processor time of the port and of the original for all the triangles, in microseconds.
-fn time_once(sides: &mut Sides, kind: Kind, triangles: &[Triangle], texture: &Texture) -> [i64; 2] {
-    let mut spent = [0; 2];
-    for part in triangles.chunks(PART as usize) {
-        sides.clear(0);
-        let start = unsafe { clock() };
-        for triangle in part {
-            sides.port.draw(triangle, kind, texture);
-        }
-        let middle = unsafe { clock() };
-        for triangle in part {
-            triangle.draw(&mut sides.original, kind, texture);
-        }
-        spent[0] += middle - start;
-        spent[1] += unsafe { clock() } - middle;
-    }
-    spent
-}
-
-fn run_time(arguments: &Arguments) -> Result<bool, String> {
-    let texture = Texture::new(64, 64, 1);
-    let mut sides = Sides::new();
-    println!("nanoseconds per triangle, port and original, best of {RUNS} runs of {TIMED}");
-    for (name, kind) in chosen(arguments).filter(|(_, kind)| *kind != Kind::Beyond) {
-        for (width, height) in BOXES {
-            let triangles: Vec<Triangle> =
-                (0..TIMED).map(|index| timed(kind, (width, height), index)).collect();
-            let mut best = [i64::MAX; 2];
-            for _ in 0..RUNS {
-                let spent = time_once(&mut sides, kind, &triangles, &texture);
-                best = [0, 1].map(|side| best[side].min(spent[side]));
-            }
-            let [port, original] = best.map(|spent| spent as f64 * 1000.0 / TIMED as f64);
-            let pixels = width * height;
-            println!("{name:16} {pixels:6} pixels {port:9.0} {original:9.0}  ratio {:.2}", port / original);
-        }
-    }
-    Ok(true)
-}
-
 fn run() -> Result<bool, String> {
     let texts: Vec<String> = std::env::args().skip(1).collect();
-    if texts.first().is_some_and(|text| text == "time") {
-        let arguments = Arguments::parse(&texts[1..])?;
-        arguments.expect(0, &["only"])?;
-        return run_time(&arguments);
-    }
     let arguments = Arguments::parse(&texts)?;
     arguments.expect(0, &["count", "seed", "only"])?;
     run_compare(&arguments)

@@ -1,6 +1,8 @@
-//! Feeding the original while counting its commands and the draws that change a pixel.
+//! Counting commands, and the draws that change a pixel.
 
 use crate::original::Vpu;
+use crate::reasons::{row, Reason, Row};
+use std::collections::BTreeMap;
 
 pub const DRAWS: [u8; 6] = [0x12, 0x14, 0x16, 0x18, 0x19, 0x1b];
 
@@ -29,23 +31,31 @@ impl Seen {
     }
 }
 
+/// Counts of whole commands: for each row and reason, and of draws.
 #[derive(Default)]
 pub struct Watch {
+    counts: BTreeMap<(&'static str, Option<Reason>), u64>,
     pub commands: u64,
     pub draws: u64,
     pub changed: u64,
 }
 
 impl Watch {
-    pub fn feed(&mut self, vpu: &mut Vpu, seen: &mut Seen, words: &[u32]) {
-        for word in words {
-            let Some(opcode) = ended_by(vpu, *word) else { continue };
-            self.commands += 1;
-            let changed = (DRAWS.contains(&opcode) || opcode == 0x04) && seen.changed(vpu);
-            if DRAWS.contains(&opcode) {
-                self.draws += 1;
-                self.changed += changed as u64;
-            }
+    /// A command, why it was refused, and whether it changed the plane.
+    pub fn add(&mut self, opcode: u8, reason: Option<Reason>, changed: bool) {
+        *self.counts.entry((row(opcode, reason).0, reason)).or_default() += 1;
+        self.commands += 1;
+        if DRAWS.contains(&opcode) {
+            self.draws += 1;
+            self.changed += changed as u64;
         }
+    }
+
+    pub fn count(&self, row: Row, reason: Option<Reason>) -> u64 {
+        self.counts.get(&(row.0, reason)).copied().unwrap_or(0)
+    }
+
+    pub fn share(&self) -> f64 {
+        100.0 * self.changed as f64 / self.draws.max(1) as f64
     }
 }

@@ -1,41 +1,41 @@
 //! The port's C interface (archive `libvpu_c.a`), and a machine that lends it its memory.
 
-use vpu_oracle::original::Vpu;
+use vpu_oracle::judge::{Start, AREA};
 
 #[repr(C)]
 #[derive(Clone, Copy)]
 pub struct Light {
-    enabled: u8,
-    ambient: [f32; 3],
-    diffuse: [f32; 3],
-    specular: [f32; 3],
-    emission: [f32; 3],
-    position: [f32; 3],
+    pub enabled: u8,
+    pub ambient: [f32; 3],
+    pub diffuse: [f32; 3],
+    pub specular: [f32; 3],
+    pub emission: [f32; 3],
+    pub position: [f32; 3],
 }
 
 #[repr(C)]
 #[derive(Clone, Copy)]
 pub struct Slot {
-    held: u8,
-    number: u32,
-    width: u32,
-    height: u32,
-    start: u32,
+    pub held: u8,
+    pub number: u32,
+    pub width: u32,
+    pub height: u32,
+    pub start: u32,
 }
 
 #[repr(C)]
 #[derive(Clone, Copy)]
 pub struct State {
-    matrices: [f32; 48],
-    shading_mode: u32,
-    lighting_enabled: u8,
-    lights: [Light; 8],
-    textures: [Slot; 64],
-    models: [Slot; 64],
-    opcode: u32,
-    gathered: u32,
-    wanted: u32,
-    status: u32,
+    pub matrices: [f32; 48],
+    pub shading_mode: u32,
+    pub lighting_enabled: u8,
+    pub lights: [Light; 8],
+    pub textures: [Slot; 64],
+    pub models: [Slot; 64],
+    pub opcode: u32,
+    pub gathered: u32,
+    pub wanted: u32,
+    pub status: u32,
 }
 
 /// What stands in the state before a reset gives one.
@@ -112,98 +112,174 @@ extern "C" {
     fn vpu_pixel(plane: *const u8, plane_length: usize, x: usize, y: usize) -> Colour;
 }
 
-const PIXELS: usize = 76_800;
-const COMMAND: usize = 524_291;
-
-/// The port's state and the six memories that it is lent.
-pub struct Port {
-    pub plane: Vec<u8>,
-    pub depth: Vec<i32>,
-    pub depth_f32: Vec<f32>,
-    command: Vec<u32>,
-    textures: Vec<u32>,
-    models: Vec<u32>,
-    state: State,
+impl Light {
+    fn terms(&self) -> [[f32; 3]; 5] {
+        [self.ambient, self.diffuse, self.specular, self.emission, self.position]
+    }
 }
 
+impl State {
+    /// Field by field, in the order of the struct.
+    pub fn words(&self) -> Vec<u32> {
+        let mut words: Vec<u32> = self.matrices.iter().map(|value| value.to_bits()).collect();
+        words.extend([self.shading_mode, self.lighting_enabled as u32]);
+        for light in &self.lights {
+            words.push(light.enabled as u32);
+            words.extend(light.terms().concat().iter().map(|value| value.to_bits()));
+        }
+        for slot in self.textures.iter().chain(&self.models) {
+            words.extend([slot.held as u32, slot.number, slot.width, slot.height, slot.start]);
+        }
+        words.extend([self.opcode, self.gathered, self.wanted, self.status]);
+        words
+    }
+}
+
+const PIXELS: usize = 76_800;
+
+/// The longest store that may be lent.
+pub const MOST_STORE: usize = 16_777_216;
+
+/// Lengths of plane, depths, float depths, command area, texture store and model store.
+pub type Lengths = [usize; 6];
+
+/// The port's state and the six memories that it is lent. Each has an element more than may be lent: a length that is too great is
+/// true, and what stands after the lent part can be seen to stay. The stores take no memory where they are not touched.
+pub struct Port {
+    plane: Vec<u8>,
+    depth: Vec<i32>,
+    depth_f32: Vec<f32>,
+    command: Vec<u32>,
+    stores: [Vec<u32>; 2],
+    pub lengths: Lengths,
+    pub state: State,
+}
+
+/// What stands after the lent part of a store.
+const AFTER: u32 = 0xa5a5_5a5a;
+
 impl Port {
-    /// A machine that is reset, with stores of so many words.
-    pub fn new(store: usize) -> Self {
-        let mut port = Self {
-            plane: vec![0; 4 * PIXELS],
-            depth: vec![0; PIXELS],
-            depth_f32: vec![0.0; PIXELS],
-            command: vec![0; COMMAND],
-            textures: vec![0; store],
-            models: vec![0; store],
+    /// A machine that is not yet reset. The memories hold something.
+    pub fn new() -> Self {
+        Self {
+            plane: vec![0x5a; 4 * PIXELS + 1],
+            depth: vec![-77; PIXELS + 1],
+            depth_f32: vec![f32::NAN; PIXELS + 1],
+            command: vec![0; AREA + 1],
+            stores: [0; 2].map(|_| vec![0; MOST_STORE + 1]),
+            lengths: [4 * PIXELS, PIXELS, PIXELS, AREA, 0, 0],
             state: NO_STATE,
-        };
-        port.reset();
-        port
+        }
     }
 
-    pub fn reset(&mut self) {
-        // SAFETY: every pointer is that of a vector with the length beside it.
-        let fed = unsafe {
-            vpu_reset(
-                self.plane.as_mut_ptr(),
-                self.plane.len(),
-                self.depth.as_mut_ptr(),
-                self.depth.len(),
-                self.depth_f32.as_mut_ptr(),
-                self.depth_f32.len(),
-                self.command.as_ptr(),
-                self.command.len(),
-                self.textures.as_mut_ptr(),
-                self.textures.len(),
-                self.models.as_mut_ptr(),
-                self.models.len(),
-            )
-        };
-        assert_eq!(fed.answer, 0, "reset is refused");
-        self.state = fed.state;
+    /// The answer.
+    pub fn reset(&mut self, start: Start) -> u32 {
+        for (place, length) in start.stores.into_iter().enumerate() {
+            self.lengths[4 + place] = length;
+            self.stores[place][length] = AFTER;
+        }
+        let (answer, state) = self.try_reset(self.lengths);
+        self.state = State { status: start.status, ..state };
+        answer
     }
 
     /// The answer.
     pub fn feed(&mut self, words: &[u32]) -> u32 {
-        // SAFETY: as in `reset`; the words are lent for reading.
+        let (answer, state) = self.try_feed(self.state, words, self.lengths);
+        self.state = state;
+        answer
+    }
+
+    pub fn plane(&self) -> &[u8] {
+        &self.plane[..4 * PIXELS]
+    }
+
+    pub fn depth(&self) -> &[i32] {
+        &self.depth[..PIXELS]
+    }
+
+    pub fn depth_f32(&self) -> &[f32] {
+        &self.depth_f32[..PIXELS]
+    }
+
+    pub fn command(&self) -> &[u32] {
+        &self.command[..AREA]
+    }
+
+    /// The texture store or the model store.
+    pub fn store(&self, place: usize) -> &[u32] {
+        &self.stores[place][..self.lengths[4 + place]]
+    }
+
+    /// Whether the elements after the lent parts are as they were.
+    pub fn stayed_within(&self) -> bool {
+        let stores = [0, 1].map(|place| self.stores[place][self.lengths[4 + place]]);
+        (self.plane[4 * PIXELS], self.depth[PIXELS], self.command[AREA]) == (0x5a, -77, 0)
+            && self.depth_f32[PIXELS].is_nan()
+            && stores == [AFTER; 2]
+    }
+}
+
+/// The calls as they are.
+impl Port {
+    pub fn try_reset(&mut self, lengths: Lengths) -> (u32, State) {
+        self.assert_there(lengths);
+        // SAFETY: every pointer is that of a vector of at least the length beside it.
+        let fed = unsafe {
+            vpu_reset(
+                self.plane.as_mut_ptr(),
+                lengths[0],
+                self.depth.as_mut_ptr(),
+                lengths[1],
+                self.depth_f32.as_mut_ptr(),
+                lengths[2],
+                self.command.as_ptr(),
+                lengths[3],
+                self.stores[0].as_mut_ptr(),
+                lengths[4],
+                self.stores[1].as_mut_ptr(),
+                lengths[5],
+            )
+        };
+        (fed.answer, fed.state)
+    }
+
+    pub fn try_feed(&mut self, state: State, words: &[u32], lengths: Lengths) -> (u32, State) {
+        self.assert_there(lengths);
+        // SAFETY: as in `try_reset`; the words are lent for reading.
         let fed = unsafe {
             vpu_feed(
-                self.state,
+                state,
                 words.as_ptr(),
                 words.len(),
                 self.plane.as_mut_ptr(),
-                self.plane.len(),
+                lengths[0],
                 self.depth.as_mut_ptr(),
-                self.depth.len(),
+                lengths[1],
                 self.depth_f32.as_mut_ptr(),
-                self.depth_f32.len(),
+                lengths[2],
                 self.command.as_mut_ptr(),
-                self.command.len(),
-                self.textures.as_mut_ptr(),
-                self.textures.len(),
-                self.models.as_mut_ptr(),
-                self.models.len(),
+                lengths[3],
+                self.stores[0].as_mut_ptr(),
+                lengths[4],
+                self.stores[1].as_mut_ptr(),
+                lengths[5],
             )
         };
-        self.state = fed.state;
-        fed.answer
+        (fed.answer, fed.state)
     }
 
-    pub fn status(&self) -> u32 {
-        self.state.status
-    }
-
-    /// The begun command in the original's terms: opcode, words gathered, words still wanted.
-    pub fn begun(&self) -> Option<(u8, usize, usize)> {
-        let State { opcode, gathered, wanted, .. } = self.state;
-        (wanted != 0).then_some((opcode as u8, gathered as usize, wanted as usize))
-    }
-
-    /// Whether a pixel read through the interface is that of the original.
-    pub fn same_pixel(&self, original: &Vpu, x: usize, y: usize) -> bool {
+    pub fn try_pixel(&self, length: usize, x: usize, y: usize) -> (u32, (u8, u8, u8, u8)) {
+        assert!(length <= self.plane.len());
         // SAFETY: the plane is lent for reading.
-        let colour = unsafe { vpu_pixel(self.plane.as_ptr(), self.plane.len(), x, y) };
-        colour.answer == 0 && (colour.r, colour.g, colour.b, colour.a) == original.pixel(x, y)
+        let colour = unsafe { vpu_pixel(self.plane.as_ptr(), length, x, y) };
+        (colour.answer, (colour.r, colour.g, colour.b, colour.a))
+    }
+
+    fn assert_there(&self, lengths: Lengths) {
+        let [textures, models] = &self.stores;
+        let (plane, depth, depth_f32) = (self.plane.len(), self.depth.len(), self.depth_f32.len());
+        let there = [plane, depth, depth_f32, self.command.len(), textures.len(), models.len()];
+        assert!(lengths.iter().zip(there).all(|(length, there)| *length <= there));
     }
 }

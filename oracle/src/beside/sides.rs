@@ -1,39 +1,36 @@
-//! The port and the original side by side: both are fed the same calls and compared after each.
+//! The port beside its judge: both are fed the same calls and compared after each.
 
 use crate::port::Port;
 use vpu_oracle::digests::bits;
+use vpu_oracle::judge::{Judge, Start};
 use vpu_oracle::original::Vpu;
 use vpu_oracle::streams::Stream;
-use vpu_oracle::watch::{Seen, Watch};
+use vpu_oracle::watch::Watch;
 
 /// Read through the interface at the end of a stream; the last two lie outside.
 const PIXELS: [(usize, usize); 6] = [(0, 0), (319, 239), (160, 120), (161, 77), (320, 0), (0, 240)];
 
 pub struct Sides {
     pub port: Port,
-    pub original: Vpu,
-    seen: Seen,
+    pub judge: Judge,
 }
 
 impl Sides {
-    pub fn new(store: usize) -> Self {
-        let original = Vpu::new();
-        Self { port: Port::new(store), seen: Seen::of(&original), original }
+    /// Neither is reset yet.
+    pub fn new() -> Self {
+        Self { port: Port::new(), judge: Judge::new() }
     }
 
-    pub fn reset(&mut self) {
-        self.port.reset();
-        self.original = Vpu::new();
-        self.seen.changed(&self.original);
+    /// Resets both; what differs afterwards, if anything.
+    pub fn reset(&mut self, start: Start) -> Option<String> {
+        self.judge.reset(start);
+        other_answer(0, self.port.reset(start)).or_else(|| self.difference())
     }
 
     /// Feeds both; another answer than 0, if there is one.
     pub fn prepare(&mut self, words: &[u32], watch: &mut Watch) -> Option<String> {
-        watch.feed(&mut self.original, &mut self.seen, words);
-        match self.port.feed(words) {
-            0 => None,
-            answer => Some(format!("the answer is {answer}")),
-        }
+        let misread = self.judge.feed(words, watch);
+        other_answer(0, self.port.feed(words)).or(misread)
     }
 
     /// Feeds both; what differs afterwards, if anything.
@@ -41,56 +38,95 @@ impl Sides {
         self.prepare(words, watch).or_else(|| self.difference())
     }
 
-    fn difference(&self) -> Option<String> {
-        let (port, original) = (&self.port, &self.original);
-        if port.status() != original.status() {
-            return Some(format!("status {:08x}, not {:08x}", port.status(), original.status()));
+    /// In anything but the command area.
+    pub fn difference(&self) -> Option<String> {
+        let (port, judge) = (&self.port, &self.judge);
+        if port.state.status != judge.status {
+            return Some(format!("status {:08x}, not {:08x}", port.state.status, judge.status));
         }
-        if port.begun() != original.begun() {
-            return Some(format!("begun {:?}, not {:?}", port.begun(), original.begun()));
-        }
-        first_other("plane", &port.plane, original.plane(), |byte| *byte as u32)
-            .or_else(|| first_other("depth", &port.depth, original.depth(), |depth| *depth as u32))
-            .or_else(|| {
-                first_other("float depth", &port.depth_f32, original.depth_f32(), |depth| bits(*depth))
-            })
+        other_picture(port, &judge.original)
+            .or_else(|| first_other("state", &port.state.words(), &judge.state_words(), |word| *word))
+            .or_else(|| self.other_store(0, "texture store"))
+            .or_else(|| self.other_store(1, "model store"))
+            .or_else(|| (!port.stayed_within()).then_some("written behind what is lent".to_string()))
     }
 
-    pub fn wrong_pixel(&self) -> Option<String> {
-        let wrong = PIXELS.iter().find(|(x, y)| !self.port.same_pixel(&self.original, *x, *y))?;
-        Some(format!("the pixel {wrong:?}"))
+    fn other_store(&self, place: usize, name: &str) -> Option<String> {
+        let list = [&self.judge.textures, &self.judge.models][place];
+        list.first_other(self.port.store(place)).map(|word| format!("{name}, word {word}"))
     }
+
+    /// In the command area; a large one, which is looked at less often.
+    pub fn other_area(&self) -> Option<String> {
+        first_other("command area", self.port.command(), &self.judge.area, |word| *word)
+    }
+
+    /// In the pixels that are read through the interface.
+    pub fn other_pixel(&self) -> Option<String> {
+        PIXELS.iter().find_map(|(x, y)| {
+            let expected = (0, self.judge.original.pixel(*x, *y));
+            let got = self.port.try_pixel(self.port.plane().len(), *x, *y);
+            (got != expected).then(|| format!("pixel {x}, {y}: {got:?}, not {expected:?}"))
+        })
+    }
+}
+
+pub fn other_answer(expected: u32, answer: u32) -> Option<String> {
+    (answer != expected).then(|| format!("the answer is {answer}, not {expected}"))
+}
+
+/// In plane or depths.
+pub fn other_picture(port: &Port, original: &Vpu) -> Option<String> {
+    first_other("plane", port.plane(), original.plane(), |byte| *byte as u32)
+        .or_else(|| first_other("depth", port.depth(), original.depth(), |depth| *depth as u32))
+        .or_else(|| first_other("float depth", port.depth_f32(), original.depth_f32(), |depth| bits(*depth)))
 }
 
 /// The first place where two memories differ. Nearly always there is none, so that is found out first, without a branch.
-fn first_other<T>(name: &str, port: &[T], original: &[T], word: impl Fn(&T) -> u32) -> Option<String> {
-    let pairs = || port.iter().zip(original).map(|(port, original)| [word(port), word(original)]);
-    if pairs().fold(0, |other, [port, original]| other | (port ^ original)) == 0 {
+fn first_other<T>(name: &str, port: &[T], judge: &[T], word: impl Fn(&T) -> u32) -> Option<String> {
+    let pairs = || port.iter().zip(judge).map(|(port, judge)| [word(port), word(judge)]);
+    if pairs().fold(0, |other, [port, judge]| other | (port ^ judge)) == 0 {
         return None;
     }
-    let (place, [port, original]) = pairs().enumerate().find(|(_, [port, original])| port != original)?;
-    Some(format!("{name} {place}: {port:08x}, not {original:08x}"))
+    let (place, [port, judge]) = pairs().enumerate().find(|(_, [port, judge])| port != judge)?;
+    Some(format!("{name} {place}: {port:08x}, not {judge:08x}"))
 }
 
-/// Whether these words, fed in one call to fresh machines, make a difference.
-fn fails(words: &[u32], store: usize) -> bool {
-    let mut sides = Sides::new(store);
-    sides.feed(words, &mut Watch::default()).or_else(|| sides.wrong_pixel()).is_some()
+/// Feeds these calls after a reset. The first difference ends them: the place of its call, and what it is.
+pub fn run(
+    sides: &mut Sides,
+    start: Start,
+    calls: &[Vec<u32>],
+    watch: &mut Watch,
+) -> Option<(usize, String)> {
+    if let Some(what) = sides.reset(start) {
+        return Some((0, what));
+    }
+    for (place, call) in calls.iter().enumerate() {
+        if let Some(what) = sides.feed(call, watch) {
+            return Some((place, what));
+        }
+    }
+    sides.other_area().or_else(|| sides.other_pixel()).map(|what| (calls.len().saturating_sub(1), what))
+}
+
+/// Whether these words, fed in one call, make a difference.
+fn fails(sides: &mut Sides, start: Start, words: Vec<u32>) -> bool {
+    run(sides, start, &[words], &mut Watch::default()).is_some()
 }
 
 /// The calls up to the first difference; where one call shows it too, that call without the commands that do not matter.
-pub fn smallest(calls: &[Vec<u32>], store: usize) -> Vec<Vec<u32>> {
-    let words = calls.concat();
-    if !fails(&words, store) {
+pub fn smallest(sides: &mut Sides, start: Start, calls: &[Vec<u32>]) -> Vec<Vec<u32>> {
+    if !fails(sides, start, calls.concat()) {
         return calls.to_vec();
     }
-    let stream = Stream::framed(words);
-    let ends = stream.headers[1..].iter().copied().chain([stream.words.len()]);
+    let stream = Stream::framed(calls.concat());
+    let ends = stream.headers.iter().skip(1).copied().chain([stream.words.len()]);
     let mut commands: Vec<&[u32]> =
         stream.headers.iter().zip(ends).map(|(start, end)| &stream.words[*start..end]).collect();
     for place in (0..commands.len()).rev() {
         let left_out = commands.remove(place);
-        if !fails(&commands.concat(), store) {
+        if !fails(sides, start, commands.concat()) {
             commands.insert(place, left_out);
         }
     }

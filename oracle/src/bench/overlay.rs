@@ -1,72 +1,10 @@
-//! How long the port and the original take for the same words, in one process.
+//! A typical overlay frame: what is sent once, and what is sent for each frame.
 
-use crate::sides::Sides;
+use crate::works::{corner, texture, words_of};
 use vpu_oracle::floats;
 use vpu_oracle::maker::{Camera, Maker};
 use vpu_oracle::random::Random;
-use vpu_oracle::streams::{Command, Corner, Stream, Triangle};
-
-const STORE: usize = 1_200_000;
-const RUNS: usize = 5;
-
-extern "C" {
-    /// Of C's library: what this process has used of a processor, in millionths of a second.
-    fn clock() -> i64;
-}
-
-pub fn run() {
-    println!(
-        "processor time, best of {RUNS} runs: nanoseconds a word, words a second, ratio of port to original"
-    );
-    let payload = Command { opcode: 0x03, payload: vec![0x1234_5678; 524_291] };
-    time("payload of a refused command", &[], &words_of(&[payload]), 1);
-    time("model of 18,724 triangles", &[], &words_of(&[model()]), 1);
-    time("texture of 1024 by 1024", &[], &words_of(&[texture(1, 1024, 1024)]), 1);
-    let (uploads, frame) = overlay();
-    time("overlay frame", &uploads, &frame, 50);
-}
-
-fn words_of(commands: &[Command]) -> Vec<u32> {
-    let mut stream = Stream::default();
-    commands.iter().for_each(|command| stream.send(command));
-    stream.words
-}
-
-fn texture(number: u32, width: u32, height: u32) -> Command {
-    Maker::new(Random::named("timed texture", 1, number as u64)).texture(number, width, height)
-}
-
-fn model() -> Command {
-    let mut maker = Maker::new(Random::named("timed model", 1, 0));
-    let records: Vec<(u32, Triangle)> = (0..18_724).map(|_| (1, maker.triangle_of_size(0.02))).collect();
-    Command::model(1, &records)
-}
-
-/// The best time of each side for `times` repetitions of the words. The sides take turns.
-fn time(name: &str, before: &[u32], words: &[u32], times: usize) {
-    let mut best = [i64::MAX; 2];
-    for _ in 0..RUNS {
-        let mut sides = Sides::new(STORE);
-        sides.port.feed(before);
-        sides.original.feed(before);
-        let start = unsafe { clock() };
-        let refused = (0..times).filter(|_| sides.port.feed(words) != 0).count();
-        let middle = unsafe { clock() };
-        (0..times).for_each(|_| sides.original.feed(words));
-        assert_eq!(refused, 0, "{name} is refused");
-        let spent = [middle - start, unsafe { clock() } - middle];
-        best = [0, 1].map(|side| best[side].min(spent[side].max(1)));
-    }
-    let [port, original] = best.map(|spent| spent as f64 / times as f64);
-    let rate = |spent: f64| words.len() as f64 / spent;
-    print!("{name:30} {:7} words, port {port:8.0} us {:6.1} words/us, ", words.len(), rate(port));
-    println!("original {original:8.0} us {:6.1} words/us, ratio {:.2}", rate(original), port / original);
-}
-
-/// A corner at a place of the screen, facing the eye.
-fn corner([x, y]: [f32; 2], z: f32, uv: [f32; 2], rgba: u32) -> Corner {
-    Corner { position: [x / 160.0 - 1.0, 1.0 - y / 120.0, z], normal: [0.0, 0.0, 1.0], uv, rgba }
-}
+use vpu_oracle::streams::{Command, Triangle};
 
 /// A rectangle of the screen as two triangles with the whole texture.
 fn rectangle([left, top, right, bottom]: [f32; 4], z: f32, rgba: [u32; 2]) -> [Triangle; 2] {
@@ -107,7 +45,7 @@ fn badge() -> Vec<Command> {
 }
 
 /// A stat plate with six bars, a portrait in its frame, a fading banner and a turned, lit badge.
-fn overlay() -> (Vec<u32>, Vec<u32>) {
+pub fn overlay() -> (Vec<u32>, Vec<u32>) {
     let mut frame = vec![Command::clear(3, 0, 0)];
     frame.extend(plate([8, 170, 311, 231], 100, 0x0010_2040));
     for bar in 0..6 {
