@@ -4,3 +4,5 @@ pub mod Lengths
 pub mod Demand3
 pub mod Reasons
 pub mod Asked
+pub mod Status
+pub mod Refused
