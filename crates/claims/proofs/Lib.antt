@@ -6,3 +6,4 @@ pub mod Reasons
 pub mod Asked
 pub mod Status
 pub mod Refused
+pub mod Calls
