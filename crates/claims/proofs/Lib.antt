@@ -7,3 +7,4 @@ pub mod Asked
 pub mod Status
 pub mod Refused
 pub mod Calls
+pub mod Table
