@@ -8,3 +8,4 @@ pub mod Status
 pub mod Refused
 pub mod Calls
 pub mod Table
+pub mod Idle

@@ -1,3 +1,4 @@
 pub mod Plain
 pub mod Runs
 pub mod Thirteen
+pub mod Idle
