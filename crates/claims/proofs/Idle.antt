@@ -2,7 +2,7 @@
 use Prim.Native.Nat.{ℕ, _≤_}
 use mathlib.Core.Path.{_≡_, refl, sym, ap, _∙_}
 use mathlib.Core.Option.{Option, none, some}
-use mathlib.Core.List.{List, [], _∷_}
+use mathlib.Core.List.{List, [], _∷_, _++_}
 use native.Mathlib.Omega.{arith}
 use borrow.Author.Tests.{le-ltb}
 use lib.IntN.{ℤ, pos}
@@ -23,19 +23,21 @@ use Rattle.state.proofs.Formed.{fresh-formed}
 use Rattle.execute.specs.Commands.{Look, Load, rgbaOf}
 use Rattle.execute.specs.Control.{Keep}
 use Rattle.execute.specs.Kept.{Machine, machine}
-use Rattle.vpu.specs.Calls.{Outcome}
+use Rattle.vpu.specs.Calls.{Outcome, reset}
+use Rattle.vpu.proofs.Laws.{stateOf}
 use Rattle.claims.specs.Plain.{Past, past, asPast}
 use Rattle.claims.specs.Runs.{feedOn}
 use Rattle.claims.specs.Thirteen.{clear, statusOf}
-use Rattle.claims.specs.Idle.{Feeder, Meets, NeverDone, OnePlane, NothingChanged, FirstKept}
+use Rattle.claims.specs.Idle.{Feeder, Meets, NeverDone, OnePlane, NothingChanged, FirstKept, upload, FirstShown}
 use Rattle.claims.proofs.Alike.{Alike}
-use Rattle.claims.proofs.Calls.{Right, feed-answers}
+use Rattle.claims.proofs.Calls.{Right, feed-answers, reset-answers}
 use Rattle.claims.proofs.Table.{thirteen}
+use Rattle.claims.proofs.Drawn.{draw, alphaOf, shows-one, shows-last, alphas}
 
 -- memory of right lengths there is
-somewhere : {Z : Type 0} → ((P : List ℕ) (D : List ℤ) (F : List Float) (C T M : List ℕ) → Right P D F C T M → Z) → Z
+somewhere : {Z : Type 0} → ((P : List ℕ) (D : List ℤ) (F : List Float) (C T M : List ℕ) → Right P D F C T M → 2 ≤ length T → Z) → Z
 somewhere h =
-    h (replicate planeBytes 0) (farInts pixels) (farFloats pixels) (replicate mostPayload 0) [] []
+    h (replicate planeBytes 0) (farInts pixels) (farFloats pixels) (replicate mostPayload 0) (0 ∷ 0 ∷ []) []
     (record {
       of-plane = length-replicate {A = ℕ} planeBytes 0;
       of-depth = length-replicate pixels (pos 2147483647);
@@ -44,6 +46,7 @@ somewhere h =
       of-textures = omega arith;
       of-models = omega arith;
     })
+    (omega arith)
 
 module _ (f : Feeder) (meets : Meets f) where
   -- on it the fresh state is fed
@@ -93,17 +96,39 @@ module _ (f : Feeder) (meets : Meets f) where
 
   -- ---- "Always answering 1 or 2: shut out by the table above with demand 2"
   pub never-done : NeverDone f → ⊥
-  never-done h = somewhere (λ P D F C T M right. never P D F C T M right h)
+  never-done h = somewhere (λ P D F C T M right two. never P D F C T M right h)
 
   -- ---- "One constant plane: demand 2, by case 4"
   pub one-plane : (Q : List ℕ) → OnePlane Q f → ⊥
-  one-plane Q h = somewhere (λ P D F C T M right. two-planes P D F C T M right Q h)
+  one-plane Q h = somewhere (λ P D F C T M right two. two-planes P D F C T M right Q h)
 
   -- ---- "Changing nothing: demand 2, by case 3"
   pub nothing-changed : NothingChanged f → ⊥
-  nothing-changed h = somewhere (λ P D F C T M right. some-change P D F C T M right h)
+  nothing-changed h = somewhere (λ P D F C T M right two. some-change P D F C T M right h)
 
--- ---- "Storing the first upload and pretending for later ones: demand 3"
+  -- ---- "Storing the first upload and pretending for later ones: demand 3, stated over demand 2's commands, since a draw must show the last accepted upload"
+  module _ (P : List ℕ) (D : List ℤ) (F : List Float) (C T M : List ℕ) (right : Right P D F C T M) (two : 2 ≤ length T) where
+    abbrev n : Machine
+    n = reset P D F C T M .machine
+
+    drawn : (ws : List ℕ) → f (stateOf n) ws (n .picture .plane) (n .picture .depth) (n .picture .depthF) (n .control .box .area) (n .control .box .textures .words) (n .control .box .models .words) ≡ feedOn n ws
+    drawn ws = meets (stateOf n) ws _ _ _ _ _ _
+
+    last-shown : FirstShown f → ⊥
+    last-shown h =
+        let done : reset P D F C T M .answer ≡ 0 = reset-answers P D F C T M .zero-if right in
+        let a : ℕ = 0x000f_0000 in
+        let b : ℕ = 0x0005_0000 in
+        let same : feedOn n (upload 1 a ++ (upload 1 b ++ draw)) .machine .picture .plane ≡ feedOn n (upload 1 a ++ draw) .machine .picture .plane =
+        ap (λ (o : Outcome). o .machine .picture .plane) (sym (drawn (upload 1 a ++ (upload 1 b ++ draw)))) ∙ h 1 a b draw (stateOf n) _ _ _ _ _ _
+        ∙ ap (λ (o : Outcome). o .machine .picture .plane) (drawn (upload 1 a ++ draw)) in
+        let z : alphaOf b ≡ alphaOf a = sym (shows-last a b .holds P D F C T M done two .1) ∙ ap (λ (l : List ℕ). getD l 3 0) same ∙ shows-one a .holds P D F C T M done two .1 in
+        omega (arith, alphas .0, alphas .1)
+
+  pub first-shown : FirstShown f → ⊥
+  first-shown h = somewhere (λ P D F C T M right two. last-shown P D F C T M right two h)
+
+-- ---- and of a way of keeping uploads: no such one answers alike the whole history
 -- two textures of 1 × 1 under the number 1
 abbrev sent : ℕ → Load
 sent w = record { kind = Texture; whole = wholeOf 1 1 1 (w ∷ []) }

@@ -8,4 +8,5 @@ pub mod Status
 pub mod Refused
 pub mod Calls
 pub mod Table
+pub mod Drawn
 pub mod Idle

@@ -27,8 +27,8 @@ use Rattle.settings.specs.declared.Settings.{Settings}
 use Rattle.state.proofs.Formed.{parts, begun-idle}
 use Rattle.store.specs.declared.Kind.{Kind}
 use Rattle.store.specs.declared.Kind.the-variants.{Texture, Model}
-use Rattle.store.specs.Uploads.{live}
-use Rattle.store.specs.Slots.{wholeOf}
+use Rattle.store.specs.Uploads.{Whole, live}
+use Rattle.store.specs.Slots.{wholeOf, view}
 use Rattle.store.proofs.Kept.{Keeps, keeps-view, keeps-look}
 use Rattle.flat.specs.Edge.{edgeOf, agreesOf, hasArea, insideOf, weightedOf}
 use Rattle.flat.specs.Tri.{areaOf, weight0, weight1, weight2, covers, depthAt, shows, triPlane}
@@ -53,25 +53,25 @@ use Rattle.claims.proofs.Demand3.{fed-done, words-shown}
 
 -- ---- after a reset: the machine beside the plain one
 -- stores of t and m words
-abbrev given : ℕ → ℕ → Kind → ℕ
+abbrev pub given : ℕ → ℕ → Kind → ℕ
 given t m Texture = t
 given t m Model = m
 
 -- the plain machine as a reset leaves it, whatever picture it has
-abbrev from : Picture → Seen Past
+abbrev pub from : Picture → Seen Past
 from p = record { control = plainFresh; picture = p }
 
 -- m is seen as the plain machine n is, with a texture store of t words
-record As (t : ℕ) (m : Machine) (n : Seen Past) : Type 0 where
-  status : statusOf m ≡ n .control .status
-  opcode : m .control .opcode ≡ n .control .opcode
-  wanted : m .control .wanted ≡ n .control .wanted
-  gathered : m .control .box .gathered ≡ length (n .control .box .payload)
-  picture : m .picture ≡ n .picture
-  textures : Keeps Texture t (m .control .box .textures .slots) (m .control .box .textures .words) (n .control .box .textures)
+pub record As (t : ℕ) (m : Machine) (n : Seen Past) : Type 0 where
+  pub status : statusOf m ≡ n .control .status
+  pub opcode : m .control .opcode ≡ n .control .opcode
+  pub wanted : m .control .wanted ≡ n .control .wanted
+  pub gathered : m .control .box .gathered ≡ length (n .control .box .payload)
+  pub picture : m .picture ≡ n .picture
+  pub textures : Keeps Texture t (m .control .box .textures .slots) (m .control .box .textures .words) (n .control .box .textures)
 
 -- so what holds of every machine that is seen so, holds after the reset
-by-plain : {R : ℕ → Type 0} {ws : List ℕ} {Q : Machine → Type 0}
+pub by-plain : {R : ℕ → Type 0} {ws : List ℕ} {Q : Machine → Type 0}
     → ((t u : ℕ) → R t → (m : Machine) → As t m (run (asPast (given t u)) plainStart ws) → Q m) → InStore R ws Q
 unfolding afterAll AllAllowed
 by-plain {ws = ws} h = record {
@@ -153,13 +153,23 @@ module _ (t u : ℕ) (p : Picture) where
   unfolding run word header gather execute told sets loads loadTold textureVerdict
   one-left n h = rw (le-ltb t 1 h) (refl, refl)
 
-three-four : (u : ℕ) (p : Picture) → run (asPast (given 4 u)) (from p) three .control .status ≡ 64
+three-four : (u : ℕ) (p : Picture)
+    → (run (asPast (given 4 u)) (from p) three .control .status ≡ 64) × (live (run (asPast (given 4 u)) (from p) three .control .box .textures) ≡ wholeOf 1 2 2 (11 ∷ 12 ∷ []) ∷ wholeOf 2 2 2 (21 ∷ 22 ∷ []) ∷ [])
 unfolding run word header gather execute told sets loads loadTold textureVerdict
-three-four u p = refl
+three-four u p = (refl, refl)
 
 three-six : (u : ℕ) (p : Picture) → (run (asPast (given 6 u)) (from p) three .control .status ≡ 0) × (live (run (asPast (given 6 u)) (from p) three .control .box .textures) ≡ wholeOf 2 2 2 (21 ∷ 22 ∷ []) ∷ wholeOf 1 2 2 (31 ∷ 32 ∷ []) ∷ [])
 unfolding run word header gather execute told sets loads loadTold textureVerdict
 three-six u p = (refl, refl)
+
+-- what a store of t words shows, where t is n
+stored : (u : ℕ) {t n status : ℕ} {us : List Whole} {m : Machine} → As t m (run (asPast (given t u)) plainStart three) → t ≡ n
+    → (run (asPast (given n u)) plainStart three .control .status ≡ status) × (live (run (asPast (given n u)) plainStart three .control .box .textures) ≡ us)
+    → (statusOf m ≡ status) × (view Texture (m .control .box .textures .slots) (m .control .box .textures .words) ≡ us)
+stored u a r l = (
+  a .status ∙ ap (λ (k : ℕ). run (asPast (given k u)) plainStart three .control .status) r ∙ l .0,
+  keeps-view (a .textures) ∙ ap (λ (k : ℕ). live (run (asPast (given k u)) plainStart three .control .box .textures)) r ∙ l .1,
+)
 
 -- ---- 3 and 4: clears, over any state and memory
 three-words : (C : List ℕ) (a b c : ℕ) → 3 ≤ length C → take 3 (set (set (set C 0 a) 1 b) 2 c) ≡ a ∷ b ∷ c ∷ []
@@ -388,12 +398,6 @@ thirteen = record {
         (a .status ∙ l .0, keeps-look (a .textures) n ∙ rw (l .1, eq-eqb n n refl))),
     λ u v b. raster.case-11 u v b,
   );
-  case-12 = (
-    by-plain (λ t u r m a. a .status ∙ ap (λ (n : ℕ). run (asPast (given n u)) plainStart three .control .status) r ∙ three-four u _),
-    by-plain
-        (λ t u r m a.
-        let l = three-six u _ in
-        (a .status ∙ ap (λ (n : ℕ). run (asPast (given n u)) plainStart three .control .status) r ∙ l .0, keeps-view (a .textures) ∙ ap (λ (n : ℕ). live (run (asPast (given n u)) plainStart three .control .box .textures)) r ∙ l .1)),
-  );
+  case-12 = (by-plain (λ t u r m a. stored u a r (three-four u _)), by-plain (λ t u r m a. stored u a r (three-six u _)));
   case-13 = (ieee.root-of-two, ieee.root-of-least);
 }

@@ -2,7 +2,7 @@
 use Prim.Native.Nat.{ℕ}
 use mathlib.Core.Path.{_≡_}
 use mathlib.Core.Option.{none, some}
-use mathlib.Core.List.{List}
+use mathlib.Core.List.{List, [], _∷_, _++_}
 use lib.IntN.{ℤ}
 use lib.Ieee.{Float}
 use Rattle.state.specs.declared.State.{State}
@@ -37,3 +37,12 @@ abbrev pub FirstKept : {X : Type 0} → Keep X → Type 0
 FirstKept {X} K =
     (x : X) (a b : Load) → a .kind ≡ b .kind → a .whole .number ≡ b .whole .number → K .look x (a .kind) (a .whole .number) ≡ none
     → K .look (K .put (K .put x a) b) (a .kind) (a .whole .number) ≡ some (a .whole)
+
+-- and of a feeder: whatever follows two 1 × 1 textures under one number, the plane is what it is after the first alone
+abbrev pub upload : ℕ → ℕ → List ℕ
+upload n w = 0x1700_0004 ∷ n ∷ 1 ∷ 1 ∷ w ∷ []
+
+abbrev pub FirstShown : Feeder → Type 0
+FirstShown f =
+    (n a b : ℕ) (ds : List ℕ) (s : State) (P : List ℕ) (D : List ℤ) (F : List Float) (C T M : List ℕ)
+    → f s (upload n a ++ (upload n b ++ ds)) P D F C T M .machine .picture .plane ≡ f s (upload n a ++ ds) P D F C T M .machine .picture .plane

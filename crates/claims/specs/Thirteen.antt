@@ -127,7 +127,8 @@ pub record Thirteen : Type 0 where
       → InStore (λ size. 1 ≤ size) (0x1700_0004 ∷ n ∷ 1 ∷ 1 ∷ 0xf0a5_1234 ∷ []) (λ m. (statusOf m ≡ 0) × (asBox .look (m .control .box) Texture n ≡ some (wholeOf n 1 1 (0xf0a5_1234 ∷ []))))
       × ((u v b : Corners) → texelOf (0xf0a5_1234 ∷ []) (record { width = 1; height = 1; u = u; v = v }) b ≡ record { r = 255; g = 0; b = 170; a = 85 })
   -- "Store of 4 words, two 2 × 2 textures, the first sent again: status 64. Store of 6: accepted, now last."
-  pub case-12 : InStore (λ size. size ≡ 4) three (λ m. statusOf m ≡ 64)
+  pub case-12 : InStore (λ size. size ≡ 4) three
+      (λ m. (statusOf m ≡ 64) × (view Texture (m .control .box .textures .slots) (m .control .box .textures .words) ≡ wholeOf 1 2 2 (11 ∷ 12 ∷ []) ∷ wholeOf 2 2 2 (21 ∷ 22 ∷ []) ∷ []))
       × InStore (λ size. size ≡ 6) three
       (λ m. (statusOf m ≡ 0) × (view Texture (m .control .box .textures .slots) (m .control .box .textures .words) ≡ wholeOf 2 2 2 (21 ∷ 22 ∷ []) ∷ wholeOf 1 2 2 (31 ∷ 32 ∷ []) ∷ []))
   -- "Root of 2.0 is 3FB504F3; root of 2^-149 is 1A3504F3."
