@@ -28,9 +28,9 @@ use Rattle.vpu.proofs.Laws.{stateOf}
 use Rattle.claims.specs.Plain.{Past, past, asPast}
 use Rattle.claims.specs.Runs.{feedOn}
 use Rattle.claims.specs.Thirteen.{clear, statusOf}
-use Rattle.claims.specs.Idle.{Feeder, Meets, NeverDone, OnePlane, NothingChanged, FirstKept, upload, FirstShown}
+use Rattle.claims.specs.Idle.{Feeder, Meets, NeverDone, NeverReset, NeverRead, OnePlane, NothingChanged, FirstKept, upload, FirstShown}
 use Rattle.claims.proofs.Alike.{Alike}
-use Rattle.claims.proofs.Calls.{Right, feed-answers, reset-answers}
+use Rattle.claims.proofs.Calls.{Right, feed-answers, reset-answers, pixel-answers}
 use Rattle.claims.proofs.Table.{thirteen}
 use Rattle.claims.proofs.Drawn.{draw, alphaOf, shows-one, shows-last, alphas}
 
@@ -127,6 +127,16 @@ module _ (f : Feeder) (meets : Meets f) where
 
   pub first-shown : FirstShown f → ⊥
   first-shown h = somewhere (λ P D F C T M right two. last-shown P D F C T M right two h)
+
+-- ---- of the other two calls that always answer 1
+pub never-reset : (f : List ℕ → List ℤ → List Float → List ℕ → List ℕ → List ℕ → Outcome)
+    → ((P : List ℕ) (D : List ℤ) (F : List Float) (C T M : List ℕ) → f P D F C T M ≡ reset P D F C T M) → NeverReset f → ⊥
+never-reset f meets h =
+    somewhere (λ P D F C T M right two. h P D F C T M (ap (λ (o : Outcome). o .answer) (meets P D F C T M) ∙ reset-answers P D F C T M .zero-if right))
+
+pub never-read : (f : List ℕ → ℕ → ℕ → Answered) → ((P : List ℕ) (x y : ℕ) → f P x y ≡ pixelOf P x y) → NeverRead f → ⊥
+never-read f meets h =
+    somewhere (λ P D F C T M right two. h P 0 0 (ap (λ (a : Answered). a .number) (meets P 0 0) ∙ pixel-answers P 0 0 .zero-if (right .of-plane)))
 
 -- ---- and of a way of keeping uploads: no such one answers alike the whole history
 -- two textures of 1 × 1 under the number 1

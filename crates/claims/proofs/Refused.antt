@@ -30,6 +30,7 @@ use Rattle.execute.specs.Paints as paints
 use Rattle.execute.specs.Paints.{paintsOn}
 use Rattle.execute.specs.Commands.{Look, Load, Told, tells, Painted, Stroked, wrongLength, sets, settingsAfter, loads, textureVerdict, countVerdict, loading, textureIn, modelIn, loadTold, clearPaints, clearPainted, flatPainted, transformedStroked, texturedStroked, modelStroked, strokedBy, floatsBy, asPaints, paintedBy, toldBy, toldOf, told}
 use Rattle.execute.specs.Control.{Keep, Control, Seen, roomVerdict, verdictOf, keptOf, execute, executed}
+use Rattle.execute.specs.Kept.{Box, box, asBox}
 use Rattle.claims.proofs.Status.{toldIn, verdictIn}
 
 -- refused, for whatever reason
@@ -172,6 +173,11 @@ module _ {X : Type 0} (K : Keep X) (c : Control X) (r : Reason) (i : ℕ) (e : v
     pub refused-picture : (m : Seen X) → m .control ≡ c → executed K m .picture ≡ m .picture
     unfolding paintsOn
     refused-picture m f = rw (f, refused-paints)
+
+-- of the machine: both stores, slots and words, and the command area are as they were
+pub refused-stores : (c : Control Box) (r : Reason) (i : ℕ) → verdictIn asBox c ≡ Refused r i
+    → execute asBox c .control .box ≡ box (c .box .textures) (c .box .models) (c .box .area) 0
+refused-stores c r i e = refused-leaves asBox c r i e .uploads
 
 -- ---- the two that paint though refused, exactly
 -- 04: "flags beyond 3 still do so, then set bit 3"; of a wrong length nothing is cleared

@@ -5,6 +5,7 @@ use mathlib.Core.Option.{none, some}
 use mathlib.Core.List.{List, [], _∷_, _++_}
 use lib.IntN.{ℤ}
 use lib.Ieee.{Float}
+use Rattle.screen.specs.Plane.{Answered}
 use Rattle.state.specs.declared.State.{State}
 use Rattle.execute.specs.Commands.{Load}
 use Rattle.execute.specs.Control.{Keep}
@@ -21,6 +22,13 @@ Meets f = (s : State) (ws : List ℕ) (P : List ℕ) (D : List ℤ) (F : List Fl
 -- "Always answering 1 or 2": never 0
 abbrev pub NeverDone : Feeder → Type 0
 NeverDone f = (s : State) (ws : List ℕ) (P : List ℕ) (D : List ℤ) (F : List Float) (C T M : List ℕ) → f s ws P D F C T M .answer ≡ 0 → ⊥
+
+-- and of the other two calls
+abbrev pub NeverReset : (List ℕ → List ℤ → List Float → List ℕ → List ℕ → List ℕ → Outcome) → Type 0
+NeverReset f = (P : List ℕ) (D : List ℤ) (F : List Float) (C T M : List ℕ) → f P D F C T M .answer ≡ 0 → ⊥
+
+abbrev pub NeverRead : (List ℕ → ℕ → ℕ → Answered) → Type 0
+NeverRead f = (P : List ℕ) (x y : ℕ) → f P x y .number ≡ 0 → ⊥
 
 -- "One constant plane", after whatever is answered 0
 abbrev pub OnePlane : List ℕ → Feeder → Type 0
