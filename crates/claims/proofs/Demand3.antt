@@ -212,12 +212,17 @@ module _ (P : List ℕ) (D : List ℤ) (F : List Float) (C T M : List ℕ) (done
   start-runs : Runs (sizes T M) (reset P D F C T M .machine) plainStart
   start-runs = rw (reset-done P D F C T M right) (reset-runs (sizes T M) P D F C T M right refl refl)
 
+  -- what words leave, seen beside what they leave on the plain machine with stores of these lengths
+  pub words-shown : (size : Kind → ℕ) → length T ≡ size Texture → length M ≡ size Model → (ws : List ℕ)
+      → Shown (asPast size) (Kept size) (run asBox (reset P D F C T M .machine) ws) (run (asPast size) plainStart ws)
+  words-shown size t m ws = run-same (alike size) ws (reset P D F C T M .machine) plainStart (rw (reset-done P D F C T M right) (reset-runs size P D F C T M right t m .shown))
+
   -- of words alone, in one call: no upload is moved, and none of the history dropped
   pub words-alike : (ws : List ℕ)
       → (run asBox (reset P D F C T M .machine) ws .picture ≡ run (asPast (sizes T M)) plainStart ws .picture)
       × (run asBox (reset P D F C T M .machine) ws .control .status ≡ run (asPast (sizes T M)) plainStart ws .control .status)
   words-alike ws =
-      let s = run-same (alike (sizes T M)) ws (reset P D F C T M .machine) plainStart (start-runs .shown) in
+      let s = words-shown (sizes T M) refl refl ws in
       (s .picture, s .control .status)
 
   -- after each call: any list of calls, so any beginning of it

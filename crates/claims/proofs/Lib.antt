@@ -6,3 +6,9 @@ pub mod Reasons
 pub mod Asked
 pub mod Demand2
 pub mod Domain
+pub mod Status
+pub mod Refused
+pub mod Calls
+pub mod Table
+pub mod Drawn
+pub mod Idle

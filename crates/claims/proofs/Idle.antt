@@ -1,0 +1,160 @@
+-- The four idle versions meet no contract: each against the claim that document 01 names. Assumes nothing.
+use Prim.Native.Nat.{ℕ, _≤_}
+use mathlib.Core.Path.{_≡_, refl, sym, ap, _∙_}
+use mathlib.Core.Option.{Option, none, some}
+use mathlib.Core.List.{List, [], _∷_, _++_}
+use native.Mathlib.Omega.{arith}
+use borrow.Author.Tests.{le-ltb}
+use lib.IntN.{ℤ, pos}
+use lib.Ieee.{Float, binary32, ofBits}
+use lib.ListN.{length, getD, replicate, length-replicate}
+use Rattle.laws.specs.Cells.{mapAt}
+use Rattle.screen.specs.Dither.{levelOf, ditherOf}
+use Rattle.screen.specs.Plane.{Answered, planeBytes, paint, shown, pixelOf}
+use Rattle.screen.specs.Draw.{pixels}
+use Rattle.screen.specs.Depths.{farInts, farFloats}
+use Rattle.screen.proofs.Cases.{filled-pixel}
+use Rattle.store.specs.declared.Kind.{Kind}
+use Rattle.store.specs.declared.Kind.the-variants.{Texture}
+use Rattle.store.specs.Uploads.{Whole}
+use Rattle.store.specs.Slots.{wholeOf}
+use Rattle.state.specs.State.{mostPayload, fresh}
+use Rattle.state.proofs.Formed.{fresh-formed}
+use Rattle.execute.specs.Commands.{Look, Load, rgbaOf}
+use Rattle.execute.specs.Control.{Keep}
+use Rattle.execute.specs.Kept.{Machine, machine}
+use Rattle.vpu.specs.Calls.{stateOf, Outcome, reset}
+use Rattle.claims.specs.Plain.{Past, past, asPast}
+use Rattle.claims.specs.Runs.{feedOn}
+use Rattle.claims.specs.Thirteen.{clear, statusOf}
+use Rattle.claims.specs.Idle.{Feeder, Meets, NeverDone, NeverReset, NeverRead, OnePlane, NothingChanged, FirstKept, upload, FirstShown}
+use Rattle.claims.proofs.Alike.{Alike}
+use Rattle.claims.proofs.Calls.{Right, feed-answers, reset-answers, pixel-answers}
+use Rattle.claims.proofs.Table.{thirteen}
+use Rattle.claims.proofs.Drawn.{draw, alphaOf, shows-one, shows-last, alphas}
+
+-- memory of right lengths there is
+somewhere : {Z : Type 0} → ((P : List ℕ) (D : List ℤ) (F : List Float) (C T M : List ℕ) → Right P D F C T M → 2 ≤ length T → Z) → Z
+somewhere h =
+    h (replicate planeBytes 0) (farInts pixels) (farFloats pixels) (replicate mostPayload 0) (0 ∷ 0 ∷ []) []
+    (record {
+      of-plane = length-replicate {A = ℕ} planeBytes 0;
+      of-depth = length-replicate pixels (pos 2147483647);
+      of-floats = length-replicate pixels (ofBits binary32 0x3f80_0000);
+      of-command = length-replicate {A = ℕ} mostPayload 0;
+      of-textures = omega arith;
+      of-models = omega arith;
+    })
+    (omega arith)
+
+module _ (f : Feeder) (meets : Meets f) where
+  -- on it the fresh state is fed
+  module _ (P : List ℕ) (D : List ℤ) (F : List Float) (C T M : List ℕ) (right : Right P D F C T M) where
+    abbrev m : Machine
+    m = machine fresh P D F C T M
+
+    fed : (ws : List ℕ) → feedOn m ws .answer ≡ 0
+    fed ws = feed-answers P D F C T M fresh ws .zero-if right (fresh-formed (length T) (length M))
+
+    done : (ws : List ℕ) → f fresh ws P D F C T M .answer ≡ 0
+    done ws = ap (λ (o : Outcome). o .answer) (meets fresh ws P D F C T M) ∙ fed ws
+
+    left : (ws : List ℕ) → f fresh ws P D F C T M .machine ≡ feedOn m ws .machine
+    left ws = ap (λ (o : Outcome). o .machine) (meets fresh ws P D F C T M)
+
+    never : NeverDone f → ⊥
+    never h = h fresh [] P D F C T M (done [])
+
+    -- case 4's clear, and one to black
+    grey-plane : (Q : List ℕ) → OnePlane Q f → pixelOf Q 0 0 ≡ record { number = 0; bytes = 132 ∷ 132 ∷ 132 ∷ 255 ∷ [] }
+    grey-plane Q h =
+        let ws = clear 1 0x8080_80ff 0 in
+        let same : feedOn m ws .machine .picture .plane ≡ Q = ap (λ (x : Machine). x .picture .plane) (sym (left ws)) ∙ h fresh ws P D F C T M (done ws) in
+        ap (λ (l : List ℕ). pixelOf l 0 0) (sym same) ∙ thirteen .case-4 0 .holds m (fed []) refl .1 .0
+
+    black-plane : (Q : List ℕ) → OnePlane Q f → pixelOf Q 0 0 ≡ record { number = 0; bytes = 0 ∷ 0 ∷ 0 ∷ 0 ∷ [] }
+    unfolding shown levelOf ditherOf rgbaOf
+    black-plane Q h =
+        let ws = clear 7 0 0 in
+        let same : feedOn m ws .machine .picture .plane ≡ Q = ap (λ (x : Machine). x .picture .plane) (sym (left ws)) ∙ h fresh ws P D F C T M (done ws) in
+        let filled : feedOn m ws .machine .picture .plane ≡ mapAt (paint (rgbaOf 0)) P = ap (λ (x : _). x .plane) (thirteen .case-3 0 0 .3 .holds m (fed []) refl .1 .1) in
+        ap (λ (l : List ℕ). pixelOf l 0 0) (sym same ∙ filled) ∙ filled-pixel (rgbaOf 0) P 0 0 (right .of-plane) (omega arith) (omega arith)
+
+    two-planes : (Q : List ℕ) → OnePlane Q f → ⊥
+    two-planes Q h =
+        let red : _≡_ {A = ℕ} 132 0 = ap (λ (a : Answered). getD (a .bytes) 0 0) (sym (grey-plane Q h) ∙ black-plane Q h) in
+        omega arith
+
+    -- case 3's clear, which is refused: status 8
+    some-change : NothingChanged f → ⊥
+    some-change h =
+        let ws = clear 7 0 0 in
+        let same : statusOf (feedOn m ws .machine) ≡ 0 = ap statusOf (sym (left ws) ∙ h fresh ws P D F C T M (done ws)) in
+        let eight : statusOf (feedOn m ws .machine) ≡ 8 = thirteen .case-3 0 0 .3 .holds m (fed []) refl .1 .0 in
+        omega arith
+
+  -- ---- "Always answering 1 or 2: shut out by the table above with demand 2"
+  pub never-done : NeverDone f → ⊥
+  never-done h = somewhere (λ P D F C T M right two. never P D F C T M right h)
+
+  -- ---- "One constant plane: demand 2, by case 4"
+  pub one-plane : (Q : List ℕ) → OnePlane Q f → ⊥
+  one-plane Q h = somewhere (λ P D F C T M right two. two-planes P D F C T M right Q h)
+
+  -- ---- "Changing nothing: demand 2, by case 3"
+  pub nothing-changed : NothingChanged f → ⊥
+  nothing-changed h = somewhere (λ P D F C T M right two. some-change P D F C T M right h)
+
+  -- ---- "Storing the first upload and pretending for later ones: demand 3, stated over demand 2's commands, since a draw must show the last accepted upload"
+  module _ (P : List ℕ) (D : List ℤ) (F : List Float) (C T M : List ℕ) (right : Right P D F C T M) (two : 2 ≤ length T) where
+    abbrev n : Machine
+    n = reset P D F C T M .machine
+
+    drawn : (ws : List ℕ) → f (stateOf n) ws (n .picture .plane) (n .picture .depth) (n .picture .depthF) (n .control .box .area) (n .control .box .textures .words) (n .control .box .models .words) ≡ feedOn n ws
+    drawn ws = meets (stateOf n) ws _ _ _ _ _ _
+
+    last-shown : FirstShown f → ⊥
+    last-shown h =
+        let done : reset P D F C T M .answer ≡ 0 = reset-answers P D F C T M .zero-if right in
+        let a : ℕ = 0x000f_0000 in
+        let b : ℕ = 0x0005_0000 in
+        let same : feedOn n (upload 1 a ++ (upload 1 b ++ draw)) .machine .picture .plane ≡ feedOn n (upload 1 a ++ draw) .machine .picture .plane =
+        ap (λ (o : Outcome). o .machine .picture .plane) (sym (drawn (upload 1 a ++ (upload 1 b ++ draw)))) ∙ h 1 a b draw (stateOf n) _ _ _ _ _ _
+        ∙ ap (λ (o : Outcome). o .machine .picture .plane) (drawn (upload 1 a ++ draw)) in
+        let z : alphaOf b ≡ alphaOf a = sym (shows-last a b .holds P D F C T M done two .1) ∙ ap (λ (l : List ℕ). getD l 3 0) same ∙ shows-one a .holds P D F C T M done two .1 in
+        omega (arith, alphas .0, alphas .1)
+
+  pub first-shown : FirstShown f → ⊥
+  first-shown h = somewhere (λ P D F C T M right two. last-shown P D F C T M right two h)
+
+-- ---- of the other two calls that always answer 1
+pub never-reset : (f : List ℕ → List ℤ → List Float → List ℕ → List ℕ → List ℕ → Outcome)
+    → ((P : List ℕ) (D : List ℤ) (F : List Float) (C T M : List ℕ) → f P D F C T M ≡ reset P D F C T M) → NeverReset f → ⊥
+never-reset f meets h =
+    somewhere (λ P D F C T M right two. h P D F C T M (ap (λ (o : Outcome). o .answer) (meets P D F C T M) ∙ reset-answers P D F C T M .zero-if right))
+
+pub never-read : (f : List ℕ → ℕ → ℕ → Answered) → ((P : List ℕ) (x y : ℕ) → f P x y ≡ pixelOf P x y) → NeverRead f → ⊥
+never-read f meets h =
+    somewhere (λ P D F C T M right two. h P 0 0 (ap (λ (a : Answered). a .number) (meets P 0 0) ∙ pixel-answers P 0 0 .zero-if (right .of-plane)))
+
+-- ---- and of a way of keeping uploads: no such one answers alike the whole history
+-- two textures of 1 × 1 under the number 1
+abbrev sent : ℕ → Load
+sent w = record { kind = Texture; whole = wholeOf 1 1 1 (w ∷ []) }
+
+abbrev wordIn : Option Whole → ℕ
+wordIn none = 0
+wordIn (some u) = getD (u .words) 0 0
+
+-- a way of keeping that answers alike the whole history, with room for two words
+module _ {X : Type 0} (K : Keep X) (size : Kind → ℕ) (Rel : X → Past → Type 0) (alike : Alike K (asPast size) Rel) (x : X) (start : Rel x (past [] [] [])) (space : 2 ≤ size Texture) where
+  pub first-kept : FirstKept K → ⊥
+  first-kept h =
+      let one : Rel (K .put x (sent 7)) (past (sent 7 .whole ∷ []) [] []) = alike .put-kept x (past [] [] []) (sent 7) start (record { sides = refl; size = refl }) (rw (le-ltb (size Texture) 1 (omega arith))) in
+      let two : Rel (K .put (K .put x (sent 7)) (sent 8)) (past (sent 8 .whole ∷ sent 7 .whole ∷ []) [] []) =
+      alike .put-kept (K .put x (sent 7)) (past (sent 7 .whole ∷ []) [] []) (sent 8) one (record { sides = refl; size = refl }) (rw (le-ltb (size Texture) 2 space)) in
+      let free : K .look x Texture 1 ≡ none = ap (λ (l : Look). l Texture 1) (alike .look-same x (past [] [] []) start) in
+      let last : K .look (K .put (K .put x (sent 7)) (sent 8)) Texture 1 ≡ some (sent 8 .whole) = ap (λ (l : Look). l Texture 1) (alike .look-same _ _ two) in
+      let same : some (sent 7 .whole) ≡ some (sent 8 .whole) = sym (h x (sent 7) (sent 8) refl refl free) ∙ last in
+      let z : _≡_ {A = ℕ} 7 8 = ap wordIn same in
+      omega arith
