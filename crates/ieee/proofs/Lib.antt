@@ -10,6 +10,7 @@ pub mod Cuts
 pub mod Ups
 pub mod Signs
 pub mod Bytes
+pub mod Unit
 pub mod Whole
 pub mod Laid
 pub mod Boxes
