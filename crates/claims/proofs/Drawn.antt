@@ -20,10 +20,10 @@ use Rattle.clip.proofs.Whole.{inside-drawn}
 use Rattle.face.specs.declared.Face.{Face}
 use Rattle.face.specs.declared.Setup.the-variants.{Drawn}
 use Rattle.face.specs.Face.{corner, pointOf, edgeOf, minOf, pastOf, boundsOf, faceOf, setupOf}
-use Rattle.face.specs.Pixel.{within, weight0, weight1, weight2, keepsOf, covers, baryOf, mixOf, depthAt, passesOf}
+use Rattle.face.specs.Pixel.{within, weight0, weight1, weight2, insideOf, covers, baryOf, mixOf, depthAt, passesOf}
 use Rattle.face.specs.declared.Corners.{Corners}
-use Rattle.raster.specs.Ink.{byteOf, rgbaOf, uvOf, samplerOf, nibblesOf, halfOf, texelOf, plainOf, shadeOf}
-use Rattle.raster.specs.Triangles.{texturedInk, texturedPlane}
+use Rattle.raster.specs.Ink.{byteOf, rgbaOf, uvOf, samplerOf, nibblesOf, halfOf, texelOf, plainOf, tonedOf, shadeOf}
+use Rattle.raster.specs.Triangles.{toneOf, texturedInk, texturedPlane}
 use Rattle.raster.proofs.Cases.{place-one}
 use Rattle.stroke.specs.Strokes.{stroke, strokeOn, fanOn, triangleOn}
 use Rattle.raster.specs.Raster.{showsAt, shows, inked, inkAt, planeAfter}
@@ -86,7 +86,7 @@ unfolding setupOf faceOf edgeOf pointOf texturedCorners texturedLit cornersOf co
 set-up = refl
 
 covered : shows face 0 (ofBits binary32 0x3f80_0000) ≡ true
-unfolding shows showsAt within covers keepsOf weight0 weight1 weight2 depthAt passesOf mixOf baryOf faceOf boundsOf minOf pastOf edgeOf pointOf texturedCorners texturedLit cornersOf cornersBy cornerOf viewOf projectedOf ofBits ofInt add mul sub div le lt wholes
+unfolding shows showsAt within covers insideOf weight0 weight1 weight2 depthAt passesOf mixOf baryOf faceOf boundsOf minOf pastOf edgeOf pointOf texturedCorners texturedLit cornersOf cornersBy cornerOf viewOf projectedOf ofBits ofInt add mul sub div le lt wholes
 covered = refl
 
 -- ---- the alpha that it leaves there, of a 1 × 1 texture of the word w
@@ -98,7 +98,7 @@ unfolding texelOf halfOf
 texel-one w u v b = rw (place-one u v b)
 
 alpha-ink : (w old : ℕ) → inkAt (w ∷ []) (texturedInk tri 1 1 0 (flatColor tri)) face 3 old ≡ alphaOf w
-unfolding inkAt inked texturedInk samplerOf shadeOf paint shown rgbaOf plainOf nibblesOf
+unfolding inkAt inked texturedInk toneOf samplerOf shadeOf tonedOf paint shown rgbaOf plainOf nibblesOf
 alpha-ink w old = rw (texel-one w (uvOf tri 0) (uvOf tri 1) (baryOf face 0 0))
 
 stroke-alpha : (w : ℕ) (p : Picture) → length (p .plane) ≡ planeBytes → getD (p .depthF) 0 nan ≡ ofBits binary32 0x3f80_0000

@@ -8,7 +8,7 @@ use Rattle.face.specs.declared.Corners.{Corners}
 use Rattle.face.specs.declared.Face.{Face}
 use Rattle.face.specs.declared.Edges.{Edges}
 use Rattle.face.specs.Face.{edgeOf}
-use Rattle.face.specs.Pixel.{centreOf, weight0, weight1, weight2, keepsOf, covers, baryOf, mixOf, depthAt}
+use Rattle.face.specs.Pixel.{centreOf, weight0, weight1, weight2, insideOf, covers, baryOf, mixOf, depthAt}
 use Rattle.face.specs.Row.{onLine, edgesOf}
 
 module _ (f : Face) (x y : ℕ) where
@@ -26,21 +26,10 @@ module _ (f : Face) (x y : ℕ) where
     unfolding edgesOf weight2 edgeOf
     along2 h = h ∙ rw (he, hp)
 
-  -- what was asked of a weight
-  pub kept : {w v : Float} {b t : Bool} → w ≡ v → b ≡ keepsOf (f .area) w → b ≡ t → keepsOf (f .area) v ≡ t
-  kept e h k = ap (keepsOf (f .area)) (sym e) ∙ sym h ∙ k
-
-  pub out0 : keepsOf (f .area) (weight0 f x y) ≡ false → covers f x y ≡ false
+  -- what was asked of the weights
+  pub covered : {w0 w1 w2 : Float} {b t : Bool} → w0 ≡ weight0 f x y → w1 ≡ weight1 f x y → w2 ≡ weight2 f x y → b ≡ insideOf (f .area) w0 w1 w2 → b ≡ t → covers f x y ≡ t
   unfolding covers
-  out0 a = rw a
-
-  pub out1 : keepsOf (f .area) (weight0 f x y) ≡ true → keepsOf (f .area) (weight1 f x y) ≡ false → covers f x y ≡ false
-  unfolding covers
-  out1 a b = rw (a, b)
-
-  pub by2 : {v : Bool} → keepsOf (f .area) (weight0 f x y) ≡ true → keepsOf (f .area) (weight1 f x y) ≡ true → keepsOf (f .area) (weight2 f x y) ≡ v → covers f x y ≡ v
-  unfolding covers
-  by2 a b c = rw (a, b) c
+  covered h0 h1 h2 h k = rw (← h0, ← h1, ← h2) (sym h ∙ k)
 
   -- `bary` and `z`
   pub bary-is : {w0 w1 w2 : Float} → w0 ≡ weight0 f x y → w1 ≡ weight1 f x y → w2 ≡ weight2 f x y

@@ -29,13 +29,13 @@ weight1 f x y = edgeOf (f .c) (f .a) (centreOf x) (centreOf y)
 unfoldable pub weight2 : Face → ℕ → ℕ → Float
 weight2 f x y = edgeOf (f .a) (f .b) (centreOf x) (centreOf y)
 
--- `inside`, of one weight: on the area's side; a NaN is not
-unfoldable pub keepsOf : Float → Float → Bool
-keepsOf area w = cond (lt zero32 area) (le zero32 w) (le w zero32)
+-- `inside`: all three weights on the area's side; a NaN is on neither
+unfoldable pub insideOf : Float → Float → Float → Float → Bool
+insideOf area w0 w1 w2 =
+    cond (lt zero32 area) (le zero32 w0 && (le zero32 w1 && le zero32 w2)) (le w0 zero32 && (le w1 zero32 && le w2 zero32))
 
--- `inside`
 unfoldable pub covers : Face → ℕ → ℕ → Bool
-covers f x y = keepsOf (f .area) (weight0 f x y) && (keepsOf (f .area) (weight1 f x y) && keepsOf (f .area) (weight2 f x y))
+covers f x y = insideOf (f .area) (weight0 f x y) (weight1 f x y) (weight2 f x y)
 
 -- `bary`
 unfoldable pub baryOf : Face → ℕ → ℕ → Corners

@@ -5,7 +5,7 @@ ghost use mathlib.Core.Path.{_≡_};
 ghost use Prim.Native.Nat.{_+_, _<_, _≤_, min, max};
 ghost use Rattle.screen.specs.Plane.{width, height};
 ghost use Rattle.face.specs.Face.{behindOf, inverseOf, pointOf, edgeOf, minOf, pastOf, boundsOf, faceOf, setupOf, OnScreen};
-ghost use Rattle.face.specs.Pixel.{centreOf, keepsOf, mixOf, passesOf};
+ghost use Rattle.face.specs.Pixel.{centreOf, insideOf, mixOf, passesOf};
 ghost use Rattle.face.specs.Row.{lineOf, onLine, edgesOf};
 
 // A number for each corner.
@@ -265,11 +265,25 @@ pub fn edges_of(f: Face, y: usize) -> Edges
     }
 }
 
-// Is an edge on the area's side?
-pub fn keeps(area: f32, w: f32) -> bool
-    ensures { λ r. ⌜ r ≡ keepsOf area w ⌝ }
+// Are all three edges on the area's side? The area is asked first, as in the original: asked at each
+// edge, the compiler made both comparisons of each.
+pub fn inside(area: f32, w0: f32, w1: f32, w2: f32) -> bool
+    ensures { λ r. ⌜ r ≡ insideOf area w0 w1 w2 ⌝ }
 {
-    if area > 0.0 { w >= 0.0 } else { w <= 0.0 }
+    if area > 0.0 {
+        if w0 >= 0.0 {
+            if w1 >= 0.0 {
+                return w2 >= 0.0;
+            }
+        }
+        return false;
+    }
+    if w0 <= 0.0 {
+        if w1 <= 0.0 {
+            return w2 <= 0.0;
+        }
+    }
+    false
 }
 
 // A sum of three products, left to right.

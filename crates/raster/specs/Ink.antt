@@ -16,7 +16,9 @@ use Rattle.raster.specs.declared.ink.Color.{Color}
 use Rattle.raster.specs.declared.ink.Colors.{Colors}
 use Rattle.raster.specs.declared.ink.Sampler.{Sampler}
 use Rattle.raster.specs.declared.ink.Ink.{Ink}
-use Rattle.raster.specs.declared.ink.Ink.the-variants.{Flat, Blend, Plain, Tinted, Mixed}
+use Rattle.raster.specs.declared.ink.Ink.the-variants.{Flat, Blend, Textured}
+use Rattle.raster.specs.declared.ink.Tone.{Tone}
+use Rattle.raster.specs.declared.ink.Tone.the-variants.{Plain, Tinted, Mixed}
 use Rattle.raster.specs.declared.ink.Shade.{Shade}
 use Rattle.raster.specs.declared.ink.Shade.the-variants.{Blank, Of}
 use Rattle.face.specs.Face.{corner}
@@ -89,18 +91,20 @@ tintedOf t c = record { r = t .r · c .r; g = t .g · c .g; b = t .b · c .b; a 
 unfoldable pub mixedOf : Colors → Corners → Color
 mixedOf c b = record { r = clampOf (mixOf b (c .r)); g = clampOf (mixOf b (c .g)); b = clampOf (mixOf b (c .b)); a = clampOf (mixOf b (c .a)) }
 
+-- `color`, of the texel t: in mode 0 as it is, in mode 1 times the flat colour, else times the interpolated one
+unfoldable pub tonedOf : Tone → Rgba → Corners → Rgba
+tonedOf Plain t b = rgbaOf (plainOf t)
+tonedOf (Tinted c) t b = rgbaOf (tintedOf (plainOf t) c)
+tonedOf (Mixed c) t b = rgbaOf (tintedOf (plainOf t) (mixedOf c b))
+
 -- ---- what an ink gives: "where the denominator is at most 2^-23 in size, the depth is stored and the pixel is not" (the first `cond`)
 unfoldable pub shadeOf : List ℕ → Ink → Corners → Corners → Shade
 shadeOf texels (Flat c) b i = Of c
 shadeOf texels (Blend c) b i = cond (tinyOf (mixOf b i)) Blank (Of (rgbaOf (blendOf c b i (mixOf b i))))
-shadeOf texels (Plain s) b i = Of (rgbaOf (plainOf (texelOf texels s b)))
-shadeOf texels (Tinted s c) b i = Of (rgbaOf (tintedOf (plainOf (texelOf texels s b)) c))
-shadeOf texels (Mixed s c) b i = Of (rgbaOf (tintedOf (plainOf (texelOf texels s b)) (mixedOf c b)))
+shadeOf texels (Textured s t) b i = Of (tonedOf t (texelOf texels s b) b)
 
 -- an ink's texture, if it has one, is in these words
 abbrev pub Stored : Ink → ℕ → Type 0
 Stored (Flat c) n = Unit
 Stored (Blend c) n = Unit
-Stored (Plain s) n = Texture (s .width) (s .height) n
-Stored (Tinted s c) n = Texture (s .width) (s .height) n
-Stored (Mixed s c) n = Texture (s .width) (s .height) n
+Stored (Textured s t) n = Texture (s .width) (s .height) n

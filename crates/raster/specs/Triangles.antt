@@ -10,6 +10,8 @@ use Rattle.raster.specs.declared.Flat.the-variants as flat
 use Rattle.raster.specs.declared.ink.Color.{Color}
 use Rattle.raster.specs.declared.ink.Ink.{Ink}
 use Rattle.raster.specs.declared.ink.Ink.the-variants as ink
+use Rattle.raster.specs.declared.ink.Tone.{Tone}
+use Rattle.raster.specs.declared.ink.Tone.the-variants as tone
 use Rattle.face.specs.Face.{setupOf}
 use Rattle.raster.specs.Ink.{rgbaOf, colorsOf, samplerOf}
 use Rattle.raster.specs.Raster.{depthsAfter, planeAfter}
@@ -20,10 +22,11 @@ transformedInk tri (flat.Some color) = ink.Flat (rgbaOf color)
 transformedInk tri flat.None = ink.Blend (colorsOf tri)
 
 -- `if mode == 0`, `if mode == 1`
+unfoldable pub toneOf : List ClipVertex → ℕ → Color → Tone
+toneOf tri mode color = cond (eqb mode 0) tone.Plain (cond (eqb mode 1) (tone.Tinted color) (tone.Mixed (colorsOf tri)))
+
 unfoldable pub texturedInk : List ClipVertex → ℕ → ℕ → ℕ → Color → Ink
-texturedInk tri width height mode color =
-    let sampler = samplerOf tri width height in
-    cond (eqb mode 0) (ink.Plain sampler) (cond (eqb mode 1) (ink.Tinted sampler color) (ink.Mixed sampler (colorsOf tri)))
+texturedInk tri width height mode color = ink.Textured (samplerOf tri width height) (toneOf tri mode color)
 
 -- `rasterize_transformed_triangle`: the depths D and the plane P afterwards
 unfoldable pub transformedDepths : List ClipVertex → List Float → List Float

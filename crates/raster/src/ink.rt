@@ -6,7 +6,7 @@ use screen::plane::Rgba;
 ghost use mathlib.Core.Path.{_≡_};
 ghost use Prim.Native.Nat.{_*_, _<_};
 ghost use lib.ListN.{length};
-ghost use Rattle.raster.specs.Ink.{byteOf, rgbaOf, dividedOf, blendOf, Texture, placeOf, halfOf, nibblesOf, texelOf, plainOf, tintedOf, mixedOf, Stored, shadeOf, colorsOf, samplerOf};
+ghost use Rattle.raster.specs.Ink.{byteOf, rgbaOf, dividedOf, blendOf, Texture, placeOf, halfOf, nibblesOf, texelOf, plainOf, tintedOf, mixedOf, tonedOf, Stored, shadeOf, colorsOf, samplerOf};
 
 // An interpolated colour, or a flat one.
 pub struct Color {
@@ -32,15 +32,19 @@ pub struct Sampler {
     pub v: Corners,
 }
 
+// What a texel is multiplied by, in modes 0, 1 and 2: nothing, a flat colour, an interpolated one.
+pub enum Tone {
+    Plain,
+    Tinted(Color),
+    Mixed(Colors),
+}
+
 // The words of a texture go beside it.
 pub enum Ink {
     Flat(Rgba),
     // divided by w
     Blend(Colors),
-    // modes 0, 1 and 2 of a texture
-    Plain(Sampler),
-    Tinted(Sampler, Color),
-    Mixed(Sampler, Colors),
+    Textured(Sampler, Tone),
 }
 
 // What an ink gives at a pixel.
@@ -49,10 +53,11 @@ pub enum Shade {
     Of(Rgba),
 }
 
+// The original clamps first, which changes nothing: the cast saturates.
 fn byte_of(v: f32) -> u8
     ensures { λ r. ⌜ r ≡ byteOf v ⌝ }
 {
-    ieee::cast::unit_byte(ieee::range::clamp01(v))
+    ieee::cast::unit_byte(v)
 }
 
 pub fn rgba_of(c: Color) -> Rgba
@@ -170,7 +175,20 @@ fn mixed(c: Colors, b: Corners) -> Color
     }
 }
 
-// At the pixel whose `bary` is b, in a triangle whose `inv_w` is i.
+// A texel in its tone: a nibble times 17 is itself after the way by floats.
+fn toned(tone: Tone, t: Rgba, b: Corners) -> Rgba
+    requires { ⌜ rgbaOf (plainOf t) ≡ t ⌝ }
+    ensures { λ r. ⌜ r ≡ tonedOf tone t b ⌝ }
+{
+    match tone {
+        Tone::Plain => t,
+        Tone::Tinted(c) => rgba_of(tinted(plain(t), c)),
+        Tone::Mixed(c) => rgba_of(tinted(plain(t), mixed(c, b))),
+    }
+}
+
+// At the pixel whose `bary` is b, in a triangle whose `inv_w` is i. One place looks a texel up, so that
+// the compiler puts it into the loop.
 pub fn shade_at(texels: &[u32], ink: Ink, b: Corners, i: Corners) -> Shade
     requires { ⌜ Stored ink (length (now texels)) ⌝ }
     ensures { λ r. ⌜ r ≡ shadeOf (now (texels .entry)) ink b i ⌝ }
@@ -178,10 +196,7 @@ pub fn shade_at(texels: &[u32], ink: Ink, b: Corners, i: Corners) -> Shade
     match ink {
         Ink::Flat(c) => Shade::Of(c),
         Ink::Blend(c) => blended(texels, c, b, i),
-        // a nibble times 17 is itself after the way by floats
-        Ink::Plain(s) => Shade::Of(texel(texels, s, b)),
-        Ink::Tinted(s, c) => Shade::Of(rgba_of(tinted(plain(texel(texels, s, b)), c))),
-        Ink::Mixed(s, c) => Shade::Of(rgba_of(tinted(plain(texel(texels, s, b)), mixed(c, b)))),
+        Ink::Textured(s, tone) => Shade::Of(toned(tone, texel(texels, s, b), b)),
     }
 }
 

@@ -3,13 +3,14 @@
 // (`ink`).
 use crate::ink::Color;
 use crate::ink::Ink;
+use crate::ink::Tone;
 use clip::vertex::ClipVertex;
 ghost use mathlib.Core.Path.{_≡_};
 ghost use lib.ListN.{length};
 ghost use Rattle.screen.specs.Plane.{planeBytes};
 ghost use Rattle.screen.specs.Draw.{pixels};
 ghost use Rattle.raster.specs.Ink.{Texture};
-ghost use Rattle.raster.specs.Triangles.{transformedInk, texturedInk, transformedDepths, transformedPlane, texturedDepths, texturedPlane};
+ghost use Rattle.raster.specs.Triangles.{transformedInk, toneOf, texturedInk, transformedDepths, transformedPlane, texturedDepths, texturedPlane};
 
 pub mod ink;
 mod rows;
@@ -45,17 +46,24 @@ pub fn rasterize_transformed_triangle(
     rows::draw(plane, depth_f32, &[], ink, setup);
 }
 
+fn tone_of(tri: [ClipVertex; 3], mode: u32, flat_color: Color) -> Tone
+    ensures { λ r. ⌜ r ≡ toneOf tri mode «flat_color» ⌝ }
+{
+    if mode == 0 {
+        return Tone::Plain;
+    }
+    if mode == 1 {
+        return Tone::Tinted(flat_color);
+    }
+    Tone::Mixed(ink::colors_of(tri))
+}
+
 fn textured_ink(tri: [ClipVertex; 3], width: u32, height: u32, mode: u32, flat_color: Color) -> Ink
     ensures { λ r. ⌜ r ≡ texturedInk tri width height mode «flat_color» ⌝ }
 {
     let sampler = ink::sampler_of(tri, width, height);
-    if mode == 0 {
-        return Ink::Plain(sampler);
-    }
-    if mode == 1 {
-        return Ink::Tinted(sampler, flat_color);
-    }
-    Ink::Mixed(sampler, ink::colors_of(tri))
+    let tone = tone_of(tri, mode, flat_color);
+    Ink::Textured(sampler, tone)
 }
 
 // The texels are the words as received, two to a word.

@@ -68,7 +68,7 @@ fn cover(
     }
 }
 
-// One pixel: the first edge that it is beyond settles it.
+// One pixel, where it is inside all three edges.
 fn draw_pixel(
     plane: &mut [u8],
     depth: &mut [f32],
@@ -86,14 +86,10 @@ fn draw_pixel(
 {
     let px = face::centre(x);
     let w0 = face::at_column(edges.w0, px);
-    if face::keeps(f.area, w0) {
-        let w1 = face::at_column(edges.w1, px);
-        if face::keeps(f.area, w1) {
-            let w2 = face::at_column(edges.w2, px);
-            if face::keeps(f.area, w2) {
-                cover(plane, depth, texels, ink, f, x, y, w0, w1, w2);
-            }
-        }
+    let w1 = face::at_column(edges.w1, px);
+    let w2 = face::at_column(edges.w2, px);
+    if face::inside(f.area, w0, w1, w2) {
+        cover(plane, depth, texels, ink, f, x, y, w0, w1, w2);
     }
 }
 

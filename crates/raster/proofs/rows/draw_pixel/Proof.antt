@@ -1,29 +1,33 @@
--- Each edge along the row is the edge at the pixel; the first that fails leaves the pixel uncovered. Assumes nothing.
+-- Each edge along the row is the edge at the pixel, and the pixel is covered where it is inside them. Assumes nothing.
 use mathlib.Core.Path.{_≡_, refl}
+use mathlib.Core.Bool.{Bool}
 use Prim.Native.Nat.{_+_, _*_}
 use Rattle.screen.specs.Plane.{width}
-use Rattle.face.specs.Pixel.{weight0, weight1, weight2}
-use Rattle.face.proofs.Lines.{along0, along1, along2, kept, out0, out1, by2}
+use Rattle.face.specs.Pixel.{weight0, weight1, weight2, covers}
+use Rattle.face.proofs.Lines.{along0, along1, along2, covered}
 use Rattle.raster.proofs.Cell.{drawn-out}
 use borrow.Author.Needs.{needs}
 use Rattle.raster.proofs.rows.draw_pixel.Statement.{statement}
 use Rattle.raster.proofs.rows.draw_pixel.Tie as tie
 
 -- ---- the edges, as they were answered
-is0 : (w : tie.After-at-column) → let a = w .before .before .before .before .before .args in w .at-column .result ≡ weight0 (a .f) (a .x) (a .y)
-is0 w =
-    let s = w .before .before .before .before .before in
-    along0 (s .args .f) (s .args .x) (s .args .y) (s .pre .1 .1) (w .before .centre .ensures) (w .at-column .ensures)
+abbrev start : tie.After-at-column3 → tie.Start
+start w = w .before .before .before .before .before .before .before
 
-is1 : (w : tie.After-at-column2) → let a = w .before .before .before .before .before .before .before .before .args in w .at-column2 .result ≡ weight1 (a .f) (a .x) (a .y)
-is1 w =
-    let s = w .before .before .before .before .before .before .before .before in
-    along1 (s .args .f) (s .args .x) (s .args .y) (s .pre .1 .1) (w .before .before .before .before .centre .ensures) (w .at-column2 .ensures)
+is0 : (w : tie.After-at-column3) → let a = start w .args in w .before .before .at-column .result ≡ weight0 (a .f) (a .x) (a .y)
+is0 w = let s = start w in along0 (s .args .f) (s .args .x) (s .args .y) (s .pre .1 .1) (w .before .before .before .centre .ensures) (w .before .before .at-column .ensures)
 
-is2 : (w : tie.After-at-column3) → let a = w .before .before .before .before .before .before .before .before .before .before .before .args in w .at-column3 .result ≡ weight2 (a .f) (a .x) (a .y)
-is2 w =
-    let s = w .before .before .before .before .before .before .before .before .before .before .before in
-    along2 (s .args .f) (s .args .x) (s .args .y) (s .pre .1 .1) (w .before .before .before .before .before .before .before .centre .ensures) (w .at-column3 .ensures)
+is1 : (w : tie.After-at-column3) → let a = start w .args in w .before .at-column2 .result ≡ weight1 (a .f) (a .x) (a .y)
+is1 w = let s = start w in along1 (s .args .f) (s .args .x) (s .args .y) (s .pre .1 .1) (w .before .before .before .centre .ensures) (w .before .at-column2 .ensures)
+
+is2 : (w : tie.After-at-column3) → let a = start w .args in w .at-column3 .result ≡ weight2 (a .f) (a .x) (a .y)
+is2 w = let s = start w in along2 (s .args .f) (s .args .x) (s .args .y) (s .pre .1 .1) (w .before .before .before .centre .ensures) (w .at-column3 .ensures)
+
+asked : (i : tie.After-inside) {t : Bool} → i .inside .result ≡ t → let a = start (i .before) .args in covers (a .f) (a .x) (a .y) ≡ t
+asked i k =
+    let w = i .before in
+    let a = start w .args in
+    covered (a .f) (a .x) (a .y) (is0 w) (is1 w) (is2 w) (i .inside .ensures) k
 
 centre-requires : tie.Need-centre-requires
 centre-requires c κs = search needs
@@ -31,38 +35,21 @@ centre-requires c κs = search needs
 at-column-requires : tie.Need-at-column-requires
 at-column-requires c κs = search needs
 
-keeps-requires : tie.Need-keeps-requires
-keeps-requires c κs = search needs
-
 at-column-requires-2 : tie.Need-at-column-requires-2
 at-column-requires-2 c κs = search needs
-
-keeps-requires-2 : tie.Need-keeps-requires-2
-keeps-requires-2 c κs = search needs
 
 at-column-requires-3 : tie.Need-at-column-requires-3
 at-column-requires-3 c κs = search needs
 
-keeps-requires-3 : tie.Need-keeps-requires-3
-keeps-requires-3 c κs = search needs
+inside-requires : tie.Need-inside-requires
+inside-requires c κs = search needs
 
 cover-requires : tie.Need-cover-requires
 cover-requires c κs =
-    let then3 = c .before .before in
-    let g3 = then3 .before in
-    let then2 = g3 .before .before in
-    let g2 = then2 .before in
-    let then1 = g2 .before .before in
-    let g1 = then1 .before in
-    let s = g1 .before .before .before .before .before .before in
-    let a = s .args in
-    let e0 = is0 (g1 .before) in
-    let e1 = is1 (g2 .before) in
-    let e2 = is2 (g3 .before) in
-    let k0 = kept (a .f) (a .x) (a .y) e0 (g1 .keeps .ensures) (then1 .if1 .taken) in
-    let k1 = kept (a .f) (a .x) (a .y) e1 (g2 .keeps2 .ensures) (then2 .if2 .taken) in
-    let k2 = kept (a .f) (a .x) (a .y) e2 (g3 .keeps3 .ensures) (then3 .if3 .taken) in
-    (s .pre .0, (s .pre .1 .0, (by2 (a .f) (a .x) (a .y) k0 k1 k2, (e0, e1, e2))))
+    let then = c .before .before in
+    let w = then .before .before in
+    let s = start w in
+    (s .pre .0, (s .pre .1 .0, (asked (then .before) (then .if1 .taken), (is0 w, is1 w, is2 w))))
 
 same-length : tie.Need-same-length
 same-length c = search needs
@@ -75,36 +62,9 @@ returns c = search needs
 
 returns-2 : tie.Need-returns-2
 returns-2 c =
-    let g3 = c .before in
-    let then2 = g3 .before .before in
-    let g2 = then2 .before in
-    let then1 = g2 .before .before in
-    let g1 = then1 .before in
-    let s = g1 .before .before .before .before .before .before in
+    let s = start (c .before .before) in
     let a = s .args in
-    let k0 = kept (a .f) (a .x) (a .y) (is0 (g1 .before)) (g1 .keeps .ensures) (then1 .if1 .taken) in
-    let k1 = kept (a .f) (a .x) (a .y) (is1 (g2 .before)) (g2 .keeps2 .ensures) (then2 .if2 .taken) in
-    let k2 = kept (a .f) (a .x) (a .y) (is2 (g3 .before)) (g3 .keeps3 .ensures) (c .if3 .left) in
-    drawn-out (a .texels .now) (a .ink) (a .f) (a .x) (a .y) (a .y * width + a .x) (a .depth .now) (a .plane .now) (s .pre .1 .0 .in-x) refl (by2 (a .f) (a .x) (a .y) k0 k1 k2)
-
-returns-3 : tie.Need-returns-3
-returns-3 c =
-    let g2 = c .before in
-    let then1 = g2 .before .before in
-    let g1 = then1 .before in
-    let s = g1 .before .before .before .before .before .before in
-    let a = s .args in
-    let k0 = kept (a .f) (a .x) (a .y) (is0 (g1 .before)) (g1 .keeps .ensures) (then1 .if1 .taken) in
-    let k1 = kept (a .f) (a .x) (a .y) (is1 (g2 .before)) (g2 .keeps2 .ensures) (c .if2 .left) in
-    drawn-out (a .texels .now) (a .ink) (a .f) (a .x) (a .y) (a .y * width + a .x) (a .depth .now) (a .plane .now) (s .pre .1 .0 .in-x) refl (out1 (a .f) (a .x) (a .y) k0 k1)
-
-returns-4 : tie.Need-returns-4
-returns-4 c =
-    let g1 = c .before in
-    let s = g1 .before .before .before .before .before .before in
-    let a = s .args in
-    let k0 = kept (a .f) (a .x) (a .y) (is0 (g1 .before)) (g1 .keeps .ensures) (c .if1 .left) in
-    drawn-out (a .texels .now) (a .ink) (a .f) (a .x) (a .y) (a .y * width + a .x) (a .depth .now) (a .plane .now) (s .pre .1 .0 .in-x) refl (out0 (a .f) (a .x) (a .y) k0)
+    drawn-out (a .texels .now) (a .ink) (a .f) (a .x) (a .y) (a .y * width + a .x) (a .depth .now) (a .plane .now) (s .pre .1 .0 .in-x) refl (asked (c .before) (c .if1 .left))
 
 pub draw-pixel-spec : {M : Type 1} → statement M
 draw-pixel-spec =
@@ -112,15 +72,11 @@ draw-pixel-spec =
     (tie.spec
     centre-requires
     at-column-requires
-    keeps-requires
     at-column-requires-2
-    keeps-requires-2
     at-column-requires-3
-    keeps-requires-3
+    inside-requires
     cover-requires
     same-length
     same-length-2
     returns
-    returns-2
-    returns-3
-    returns-4)
+    returns-2)
