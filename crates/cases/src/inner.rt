@@ -4,6 +4,7 @@ use face::Corners;
 use raster::ink::Ink;
 use raster::ink::Sampler;
 use raster::ink::Shade;
+use raster::ink::Tone;
 
 // Case 9: a channel of 128 under a shade.
 pub fn shaded(shade: u32) {
@@ -32,7 +33,8 @@ pub fn texel() {
         u: corners(0.0),
         v: corners(0.0),
     };
-    let shade = raster::ink::shade_at(&[0xf0a5_1234], Ink::Plain(s), corners(0.25), corners(1.0));
+    let ink = Ink::Textured(s, Tone::Plain);
+    let shade = raster::ink::shade_at(&[0xf0a5_1234], ink, corners(0.25), corners(1.0));
     say::text(b"11 word F0A51234: texel ");
     match shade {
         Shade::Of(c) => say::colour(c),
