@@ -2,6 +2,9 @@ pub mod Bools
 pub mod Over
 pub mod Laws
 pub mod Walk
+pub mod Mapped
+pub mod Split
+pub mod Marks
 pub mod Held
 pub mod Moved
 pub mod Kept

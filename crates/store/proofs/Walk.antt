@@ -15,6 +15,7 @@ use Rattle.store.proofs.Bools.{and-left, and-right}
 use Rattle.store.proofs.Laws.{without-append, length-without, total-append, total-without}
 use Rattle.store.specs.Uploads.{Card, without, holds, total}
 use Rattle.store.specs.Slots.{areaOf, sidesOk, noSlot, slotOf, place, slotsOf, cardAt, told, slotFor, stays, fresh, zeroSlot, unused, heldOk, slotsOk}
+use Rattle.store.specs.Tests.{laidOk}
 use Rattle.store.specs.declared.Slot.{Slot}
 use Rattle.store.specs.declared.Kind.{Kind}
 use Rattle.store.specs.declared.Kind.the-variants.{Texture, Model}
@@ -142,7 +143,7 @@ module _ (ss : List Slot) (i : ℕ) (here : i < length ss) where
       go true true e = rw e (append-nil (kept k n i ss))
       go true false e = rw e
 
-  -- fresh_from, unused_from, slots_ok
+  -- fresh_from, unused_from, laid_ok
   pub fresh-end : (n : ℕ) → s .held ≡ false → fresh n (drop i ss) ≡ true
   fresh-end n a = rw (slots-from, a)
 
@@ -155,17 +156,24 @@ module _ (ss : List Slot) (i : ℕ) (here : i < length ss) where
   pub unused-is : unused (drop i ss) ≡ cond (zeroSlot s) (unused (drop (i + 1) ss)) false
   unused-is = ap unused slots-from
 
+  pub laid-unheld : (k : Kind) (size at : ℕ) → s .held ≡ false → laidOk k size at (drop i ss) ≡ (unused (drop i ss) && leb at size)
+  laid-unheld k size at a = rw (slots-from, a)
+
+  -- something is wrong with the slot at i
+  pub laid-no : (k : Kind) (size at : ℕ) → s .held ≡ true → (sidesOk k (s .width) (s .height) && eqb (s .start) at) ≡ false → laidOk k size at (drop i ss) ≡ false
+  laid-no k size at a e = rw (slots-from, a, e)
+
+  -- nothing is: the slots after it are left to be tested
+  pub laid-next : (k : Kind) (size at : ℕ) → s .held ≡ true → sidesOk k (s .width) (s .height) ≡ true → s .start ≡ at
+      → laidOk k size at (drop i ss) ≡ laidOk k size (at + areaOf k (s .width) (s .height)) (drop (i + 1) ss)
+  laid-next k size at h a b = rw (slots-from, h, a, eq-eqb _ _ b)
+
+  -- the whole test of slots
   pub ok-unheld : (k : Kind) (size at : ℕ) → s .held ≡ false → slotsOk k size at (drop i ss) ≡ (unused (drop i ss) && leb at size)
   ok-unheld k size at a = rw (slots-from, a)
 
-  -- something is wrong with the slot at i
   pub ok-no : (k : Kind) (size at : ℕ) → s .held ≡ true → heldOk k at s (drop (i + 1) ss) ≡ false → slotsOk k size at (drop i ss) ≡ false
   ok-no k size at a e = rw (slots-from, a, e)
-
-  -- nothing is: the slots after it are left to be tested
-  pub ok-next : (k : Kind) (size at : ℕ) → s .held ≡ true → sidesOk k (s .width) (s .height) ≡ true → s .start ≡ at → fresh (s .number) (drop (i + 1) ss) ≡ true
-      → slotsOk k size at (drop i ss) ≡ slotsOk k size (at + areaOf k (s .width) (s .height)) (drop (i + 1) ss)
-  ok-next k size at h a b c = rw (slots-from, h, a, eq-eqb _ _ b, c)
 
 pub slots-end : (ss : List Slot) (i : ℕ) → length ss ≤ i → drop i ss ≡ []
 slots-end ss i h = drop-of-length-le ss h

@@ -5,13 +5,18 @@ use crate::Slot;
 use crate::slots::area;
 ghost use mathlib.Core.Path.{_≡_};
 ghost use Prim.Native.Nat.{_≤_};
-ghost use lib.ListN.{drop};
+ghost use mathlib.Core.List.{map};
+ghost use lib.ListN.{length, drop};
 ghost use Rattle.store.specs.Uploads.{slotCount};
 ghost use Rattle.store.specs.Slots.{sidesOk, slotsOk, fresh, zeroSlot, unused};
+ghost use Rattle.store.specs.Tests.{laidOk, differ, numberOf, hits};
 
 const MOST_SIDE: u32 = 1024;
 
 const MOST_COUNT: u32 = 18724;
+
+// Marks for numbers. A prime, so that numbers in steps of a power of two have marks of their own.
+const MARKS: usize = 509;
 
 pub fn sides_ok(kind: Kind, width: u32, height: u32) -> bool
     ensures { λ r. ⌜ r ≡ sidesOk kind width height ⌝ }
@@ -93,10 +98,10 @@ fn unused_from(slots: [Slot; SLOTS], from: usize) -> bool
     true
 }
 
-// Document 01's "well formed", of a store of `size` words. The sum of the areas is small, since
-// sides are tested before an area is added.
-pub fn slots_ok(kind: Kind, slots: [Slot; SLOTS], size: usize) -> bool
-    ensures { λ r. ⌜ r ≡ slotsOk kind size 0 slots ⌝ }
+// All but the numbers. The sum of the areas is small, since sides are tested before an area is
+// added.
+fn laid_ok(kind: Kind, slots: [Slot; SLOTS], size: usize) -> bool
+    ensures { λ r. ⌜ r ≡ laidOk kind size 0 slots ⌝ }
 {
     let mut i = 0;
     let mut at = 0;
@@ -114,11 +119,81 @@ pub fn slots_ok(kind: Kind, slots: [Slot; SLOTS], size: usize) -> bool
         if s.start as usize != at {
             return false;
         }
-        if !fresh_from(slots, i + 1, s.number) {
-            return false;
-        }
         at += area(kind, s.width, s.height);
         i += 1;
     }
     at <= size
+}
+
+fn numbers_of(slots: [Slot; SLOTS]) -> [u32; SLOTS]
+    ensures { λ r. ⌜ r ≡ map numberOf slots ⌝ }
+{
+    let mut out = [0; SLOTS];
+    let mut i = 0;
+    while i < SLOTS {
+        let s = slots[i];
+        out[i] = s.number;
+        i += 1;
+    }
+    out
+}
+
+// How often the number stands there. All are looked at, so that several are at a time.
+fn times(numbers: &[u32; SLOTS], number: u32) -> u32
+    requires { ⌜ length (now numbers) ≡ slotCount ⌝ }
+    ensures { λ r. ⌜ r ≡ hits number (now (numbers .entry)) ⌝ }
+{
+    let mut n: u32 = 0;
+    let mut i: usize = 0;
+    while i < SLOTS {
+        if numbers[i] == number {
+            n += 1;
+        }
+        i += 1;
+    }
+    n
+}
+
+// Are the numbers of the held slots different? From the last slot to the first: a number whose mark
+// is not set is none of the later ones, and neither is one that stands there once; only then the
+// later ones are asked.
+fn numbers_differ(slots: [Slot; SLOTS]) -> bool
+    ensures { λ r. ⌜ r ≡ differ slots ⌝ }
+{
+    let numbers = numbers_of(slots);
+    let mut marks = [false; MARKS];
+    let mut ok = true;
+    let mut i = SLOTS;
+    while 0 < i {
+        i -= 1;
+        let s = slots[i];
+        if s.held {
+            let mark = s.number as usize % MARKS;
+            if marks[mark] {
+                if 1 < times(&numbers, s.number) {
+                    if !fresh_from(slots, i + 1, s.number) {
+                        ok = false;
+                    }
+                }
+            }
+            marks[mark] = true;
+        } else {
+            ok = true;
+        }
+    }
+    ok
+}
+
+// Document 01's "well formed", of a store of `size` words.
+pub fn slots_ok(kind: Kind, slots: [Slot; SLOTS], size: usize) -> bool
+    ensures { λ r. ⌜ r ≡ slotsOk kind size 0 slots ⌝ }
+{
+    if !laid_ok(kind, slots, size) {
+        return false;
+    }
+    let first = slots[0];
+    if !first.held {
+        return true;
+    }
+    numbers_differ(slots)
 }

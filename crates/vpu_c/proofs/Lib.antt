@@ -1,3 +1,2 @@
-pub mod Mapped
 pub mod Back
 pub mod Laws

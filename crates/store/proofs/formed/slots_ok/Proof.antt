@@ -1,181 +1,43 @@
--- `store::formed::slots_ok` meets its contract. The invariant: the test of all slots is the test of those from index i on, from the word `at` on.
+-- `store::formed::slots_ok` meets its contract: it is both tests, and where the first slot is not held there are no numbers.
 -- Assumes nothing.
-use Prim.Native.Nat.{ℕ, _+_, _-_, _*_, _≤_, _<_}
-use mathlib.Core.Path.{_≡_, refl, sym, ap, _∙_}
-use mathlib.Core.Bool.{true, and-true, and-false}
+use mathlib.Core.Path.{_≡_, sym, ap, _∙_}
+use mathlib.Core.Bool.{true, false, and-true}
 use native.Mathlib.Omega.{arith}
 use borrow.Author.Needs.{needs}
-use borrow.Author.Tests.{not-true, not-false, lt-leb, le-leb, ne-eqb, eq-eqb}
-use lib.ListN.{length, drop, getD}
-use Rattle.store.specs.Slots.{areaOf, slotsOk, unused, noSlot}
-use Rattle.store.proofs.Walk.{slots-end, ok-unheld, ok-no, ok-next, area-most}
+use borrow.Author.Tests.{not-true, not-false}
+use lib.ListN.{length}
+use Rattle.store.specs.Tests.{laidOk, differ}
+use Rattle.store.proofs.Split.{split}
+use Rattle.store.proofs.Marks.{differ-unheld}
 use Rattle.store.proofs.formed.slots_ok.Statement.{statement}
 use Rattle.store.proofs.formed.slots_ok.Tie as tie
 
-abbrev Inv-loop : tie.InvT-loop
-Inv-loop kind size slots i₀ at₀ i at = (i ≤ 64) × ((length slots ≡ 64) × ((at ≤ 524288 * i) × (slotsOk kind size 0 slots ≡ slotsOk kind size at (drop i slots))))
+laid-ok-requires : tie.Need-laid-ok-requires
+laid-ok-requires c κs = search needs
 
-abbrev μ-loop : tie.MeasureT-loop
-μ-loop kind size slots i₀ at₀ i at = 64 - i
-
-loop-holds : tie.Need-loop-holds Inv-loop μ-loop
-loop-holds c = (omega arith, (search needs, (omega arith, refl)))
-
-mul-s : tie.Need-mul-s Inv-loop μ-loop
-mul-s c = omega arith
-
-array-copy-out-s : tie.Need-array-copy-out-s Inv-loop μ-loop
-array-copy-out-s c = omega arith
-
-returns : tie.Need-returns Inv-loop μ-loop
+returns : tie.Need-returns
 returns c =
-    let at-loop = c .before .before .before .before .before in
-    let args = at-loop .before .args in
-    let i = at-loop .loop .i in
-    let at = at-loop .loop .at in
-    let here : i < length (args .t2) = omega arith in
-    let free = not-true _ (c .before .if1 .taken) in
-    sym (at-loop .loop .inv .1 .1 .1 ∙ ok-unheld (args .t2) i here (args .kind) (args .size) at free ∙ rw (lt-leb at (args .size) (c .if2 .taken)) (and-false (unused (drop i (args .t2)))))
+    let args = c .before .before .args in
+    let no = sym (c .before .laid-ok .ensures) ∙ not-true _ (c .if1 .taken) in
+    sym (split (args .kind) (args .size) 0 (args .t2) ∙ rw no)
 
-unused-from-requires : tie.Need-unused-from-requires Inv-loop μ-loop
-unused-from-requires c κs = search needs
+array-copy-out-first : tie.Need-array-copy-out-first
+array-copy-out-first c = search needs
 
-returns-2 : tie.Need-returns-2 Inv-loop μ-loop
+returns-2 : tie.Need-returns-2
 returns-2 c =
-    let at-loop = c .before .before .before .before .before .before in
-    let args = at-loop .before .args in
-    let i = at-loop .loop .i in
-    let at = at-loop .loop .at in
-    let here : i < length (args .t2) = omega arith in
-    let free = not-true _ (c .before .before .if1 .taken) in
-    c .unused-from .ensures
-    ∙ sym (at-loop .loop .inv .1 .1 .1 ∙ ok-unheld (args .t2) i here (args .kind) (args .size) at free ∙ rw (le-leb at (args .size) (c .before .if2 .left)) (and-true (unused (drop i (args .t2)))))
+    let args = c .before .before .before .before .before .args in
+    let yes = sym (c .before .before .before .before .laid-ok .ensures) ∙ not-false _ (c .before .before .before .if1 .left) in
+    sym (split (args .kind) (args .size) 0 (args .t2) ∙ rw yes (sym (differ-unheld (args .t2) 0 1 (omega arith) (omega arith) (not-true _ (c .if2 .taken)))))
 
-sides-ok-requires : tie.Need-sides-ok-requires Inv-loop μ-loop
-sides-ok-requires c κs = search needs
+numbers-differ-requires : tie.Need-numbers-differ-requires
+numbers-differ-requires c κs = search needs
 
-returns-3 : tie.Need-returns-3 Inv-loop μ-loop
+returns-3 : tie.Need-returns-3
 returns-3 c =
-    let at-loop = c .before .before .before .before .before .before in
-    let args = at-loop .before .args in
-    let i = at-loop .loop .i in
-    let at = at-loop .loop .at in
-    let here : i < length (args .t2) = omega arith in
-    let held : getD (args .t2) i noSlot .held ≡ true = not-false _ (c .before .before .if1 .left) in
-    let sides = sym (c .before .sides-ok .ensures) ∙ not-true _ (c .if3 .taken) in
-    sym (at-loop .loop .inv .1 .1 .1 ∙ ok-no (args .t2) i here (args .kind) (args .size) at held (rw (sides)))
-
-cast-if4 : tie.Need-cast-if4 Inv-loop μ-loop
-cast-if4 c = search needs
-
-returns-4 : tie.Need-returns-4 Inv-loop μ-loop
-returns-4 c =
-    let at-loop = c .before .before .before .before .before .before .before .before in
-    let args = at-loop .before .args in
-    let i = at-loop .loop .i in
-    let at = at-loop .loop .at in
-    let here : i < length (args .t2) = omega arith in
-    let held : getD (args .t2) i noSlot .held ≡ true = not-false _ (c .before .before .before .before .if1 .left) in
-    let sides = sym (c .before .before .before .sides-ok .ensures) ∙ not-false _ (c .before .before .if3 .left) in
-    sym (at-loop .loop .inv .1 .1 .1 ∙ ok-no (args .t2) i here (args .kind) (args .size) at held (rw (sides, ne-eqb (getD (args .t2) i noSlot .start) at (c .if4 .taken))))
-
-add-fresh-from : tie.Need-add-fresh-from Inv-loop μ-loop
-add-fresh-from c = omega arith
-
-fresh-from-requires : tie.Need-fresh-from-requires Inv-loop μ-loop
-fresh-from-requires c κs = omega arith
-
-returns-5 : tie.Need-returns-5 Inv-loop μ-loop
-returns-5 c =
-    let at-loop = c .before .before .before .before .before .before .before .before .before .before in
-    let args = at-loop .before .args in
-    let i = at-loop .loop .i in
-    let at = at-loop .loop .at in
-    let here : i < length (args .t2) = omega arith in
-    let held : getD (args .t2) i noSlot .held ≡ true = not-false _ (c .before .before .before .before .before .before .if1 .left) in
-    let sides = sym (c .before .before .before .before .before .sides-ok .ensures) ∙ not-false _ (c .before .before .before .before .if3 .left) in
-    let fresh = sym (c .before .fresh-from .ensures) ∙ not-true _ (c .if5 .taken) in
-    sym (at-loop .loop .inv .1 .1 .1 ∙ ok-no (args .t2) i here (args .kind) (args .size) at held (rw (sides, eq-eqb (getD (args .t2) i noSlot .start) at (c .before .before .if4 .left), fresh)))
-
-area-requires : tie.Need-area-requires Inv-loop μ-loop
-area-requires c κs = search needs
-
--- past all tests of the slot at i: its area is small, and the slots after it are left to be tested
-passed : (c : tie.After-area Inv-loop μ-loop)
-    → let at-loop = c .before .before .before .before .before .before .before .before .before .before .before in
-    let args = at-loop .before .args in
-    let i = at-loop .loop .i in
-    let at = at-loop .loop .at in
-    let area = areaOf (args .kind) (getD (args .t2) i noSlot .width) (getD (args .t2) i noSlot .height) in
-    (area ≤ 524288) × (slotsOk (args .kind) (args .size) at (drop i (args .t2)) ≡ slotsOk (args .kind) (args .size) (at + area) (drop (i + 1) (args .t2)))
-passed c =
-    let at-loop = c .before .before .before .before .before .before .before .before .before .before .before in
-    let args = at-loop .before .args in
-    let i = at-loop .loop .i in
-    let at = at-loop .loop .at in
-    let here : i < length (args .t2) = omega arith in
-    let held : getD (args .t2) i noSlot .held ≡ true = not-false _ (c .before .before .before .before .before .before .before .if1 .left) in
-    let sides = sym (c .before .before .before .before .before .before .sides-ok .ensures) ∙ not-false _ (c .before .before .before .before .before .if3 .left) in
-    let fresh = sym (c .before .before .fresh-from .ensures) ∙ not-false _ (c .before .if5 .left) in
-    let start = c .before .before .before .if4 .left in (
-      area-most (args .kind) (getD (args .t2) i noSlot .width) (getD (args .t2) i noSlot .height) sides,
-      ok-next (args .t2) i here (args .kind) (args .size) at held sides start fresh,
-    )
-
-add-at : tie.Need-add-at Inv-loop μ-loop
-add-at c =
-    let next = passed c in
-    omega (arith, c .area .ensures)
-
-add-i : tie.Need-add-i Inv-loop μ-loop
-add-i c = omega arith
-
-loop-less : tie.Need-loop-less Inv-loop μ-loop
-loop-less c = omega arith
-
-loop-again : tie.Need-loop-again Inv-loop μ-loop
-loop-again c =
-    let at-loop = c .before .before .before .before .before .before .before .before .before .before .before in
-    let args = at-loop .before .args in
-    let i = at-loop .loop .i in
-    let at = at-loop .loop .at in
-    let next = passed c in
-    let area = c .area .ensures in (
-      omega arith,
-      (
-        at-loop .loop .inv .1 .0,
-        (omega arith, at-loop .loop .inv .1 .1 .1 ∙ next .1 ∙ ap (λ (n : ℕ). slotsOk (args .kind) (args .size) (at + n) (drop (i + 1) (args .t2))) (sym area)),
-      ),
-    )
-
-returns-6 : tie.Need-returns-6 Inv-loop μ-loop
-returns-6 c =
-    let at-loop = c .before in
-    let args = at-loop .before .args in
-    sym (at-loop .loop .inv .1 .1 .1 ∙ ap (slotsOk (args .kind) (args .size) (at-loop .loop .at)) (slots-end (args .t2) (at-loop .loop .i) (omega arith)))
+    let args = c .before .before .before .before .before .before .args in
+    let yes = sym (c .before .before .before .before .before .laid-ok .ensures) ∙ not-false _ (c .before .before .before .before .if1 .left) in
+    c .numbers-differ .ensures ∙ sym (split (args .kind) (args .size) 0 (args .t2) ∙ rw yes)
 
 pub slots-ok-spec : {M : Type 1} → statement M
-slots-ok-spec =
-    tie.close
-    (tie.spec
-    Inv-loop
-    μ-loop
-    loop-holds
-    mul-s
-    array-copy-out-s
-    returns
-    unused-from-requires
-    returns-2
-    sides-ok-requires
-    returns-3
-    cast-if4
-    returns-4
-    add-fresh-from
-    fresh-from-requires
-    returns-5
-    area-requires
-    add-at
-    add-i
-    loop-less
-    loop-again
-    returns-6)
+slots-ok-spec = tie.close (tie.spec laid-ok-requires returns array-copy-out-first returns-2 numbers-differ-requires returns-3)

@@ -4,7 +4,7 @@ use mathlib.Core.Path.{refl}
 use native.Mathlib.Omega.{arith}
 use borrow.Author.Needs.{needs}
 use Rattle.vpu_c.specs.Plain.{slotIn}
-use Rattle.vpu_c.proofs.Mapped.{Mapped, mapped-more, mapped-all}
+use Rattle.store.proofs.Mapped.{Mapped, mapped-more, mapped-all}
 use Rattle.vpu_c.proofs.plain.slots_in.Statement.{statement}
 use Rattle.vpu_c.proofs.plain.slots_in.Tie as tie
 
