@@ -197,11 +197,17 @@ fn upload(name: &str, command: Command) -> Work {
     Work::new(name, "upload", 1, words_of(&[command]))
 }
 
-/// Each upload is the oldest of 64 when it is sent again, so that all others move.
-fn uploads_again() -> Work {
+/// Of 64 held, any is sent again; or the oldest each time, so that all others move.
+fn uploads_again(which: &str, numbers: Vec<u32>) -> Work {
+    let sent: Vec<Command> = numbers.iter().map(|&number| texture(number, 64, 64)).collect();
     let all: Vec<Command> = (0..64).map(|number| texture(number, 64, 64)).collect();
-    Work::new("17, 64 by 64, again, the oldest of 64 held", "upload", 64, words_of(&all))
+    Work::new(&format!("17, 64 by 64, again, {which} of 64 held"), "upload", sent.len(), words_of(&sent))
         .after(words_of(&all))
+}
+
+fn any_of_64() -> Vec<u32> {
+    let mut random = Random::named("again", 1, 0);
+    (0..256).map(|_| random.below(64)).collect()
 }
 
 /// A command that is refused, header included.
@@ -257,7 +263,8 @@ pub fn all(scenes: &str) -> Result<Vec<Work>, String> {
     works.push(model_draw(500));
     works.push(upload("17, 256 by 256", texture(1, 256, 256)));
     works.push(upload("17, 1024 by 1024", texture(1, 1024, 1024)));
-    works.push(uploads_again());
+    works.push(uploads_again("any", any_of_64()));
+    works.push(uploads_again("the oldest", (0..64).collect()));
     works.push(upload("1A, 18,724 triangles", model(1, 18_724)));
     works.extend(frames(scenes)?);
     works.extend([payload(524_292), single_words(0), single_words(64)]);
