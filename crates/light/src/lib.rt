@@ -3,7 +3,7 @@ use vector::three::dot;
 use vector::three::normalize;
 ghost use mathlib.Core.Path.{_≡_};
 ghost use Prim.Native.Nat.{_<_};
-ghost use Rattle.light.specs.Light.{disabled, toLightOf, shineOf, termOf, addedOf, shadeOf};
+ghost use Rattle.light.specs.Light.{disabled, viewOf, toLightOf, shineOf, termOf, addedOf, shadeOf};
 
 pub struct Light {
     pub enabled: bool,
@@ -45,14 +45,13 @@ fn to_light(light: [f32; 3], position: [f32; 3]) -> [f32; 3]
 fn shine(normal: [f32; 3], to_light: [f32; 3], view: [f32; 3], ndotl: f32) -> f32
     ensures { λ r. ⌜ r ≡ shineOf normal «to_light» view ndotl ⌝ }
 {
-    let half_vector = normalize([
-        to_light[0] + view[0],
-        to_light[1] + view[1],
-        to_light[2] + view[2],
-    ]);
-    let ndoth = ieee::range::max0(dot(normal, half_vector));
     if ndotl > 0.0 {
-        return vector::three::powi16(ndoth);
+        let half_vector = normalize([
+            to_light[0] + view[0],
+            to_light[1] + view[1],
+            to_light[2] + view[2],
+        ]);
+        return vector::three::powi16(ieee::range::max0(dot(normal, half_vector)));
     }
     0.0
 }
@@ -90,6 +89,15 @@ fn add_light(
     ]
 }
 
+// The direction from a corner to the eye. It takes the root by itself, and not by `normalize`: with
+// two callers the compiler leaves the root a function, and `normalize` is small enough to inline.
+fn to_eye(position: [f32; 3]) -> [f32; 3]
+    ensures { λ r. ⌜ r ≡ viewOf position ⌝ }
+{
+    let back = [-position[0], -position[1], -position[2]];
+    vector::three::scaled(back, ieee::root::sqrt(dot(back, back)))
+}
+
 pub fn shade_vertex(
     albedo: [f32; 4],
     position: [f32; 3],
@@ -98,7 +106,7 @@ pub fn shade_vertex(
 ) -> [f32; 4]
     ensures { λ r. ⌜ r ≡ shadeOf albedo position normal lights ⌝ }
 {
-    let view = normalize([-position[0], -position[1], -position[2]]);
+    let view = to_eye(position);
     let mut rgb = [0.0, 0.0, 0.0];
     let mut i: usize = 0;
     while i < 8 {

@@ -1,6 +1,6 @@
 // Vectors of three.
 ghost use mathlib.Core.Path.{_≡_};
-ghost use Rattle.vector.specs.Three.{dotOf, normalOf, power16};
+ghost use Rattle.vector.specs.Three.{dotOf, scaledOf, normalOf, power16};
 
 pub fn dot(a: [f32; 3], b: [f32; 3]) -> f32
     ensures { λ r. ⌜ r ≡ dotOf a b ⌝ }
@@ -8,17 +8,22 @@ pub fn dot(a: [f32; 3], b: [f32; 3]) -> f32
     a[0] * b[0] + a[1] * b[1] + a[2] * b[2]
 }
 
-// The literal is f32::EPSILON, 2^-23.
-pub fn normalize(vector: [f32; 3]) -> [f32; 3]
-    ensures { λ r. ⌜ r ≡ normalOf vector ⌝ }
+// The vector brought to length 1, where its length is in hand. The literal is f32::EPSILON, 2^-23.
+pub fn scaled(vector: [f32; 3], length: f32) -> [f32; 3]
+    ensures { λ r. ⌜ r ≡ scaledOf vector length ⌝ }
 {
-    let length = ieee::root::sqrt(dot(vector, vector));
     if ieee::bits::is_finite(length) {
         if length > 0.00000011920928955078125 {
             return [vector[0] / length, vector[1] / length, vector[2] / length];
         }
     }
     [0.0, 0.0, 1.0]
+}
+
+pub fn normalize(vector: [f32; 3]) -> [f32; 3]
+    ensures { λ r. ⌜ r ≡ normalOf vector ⌝ }
+{
+    scaled(vector, ieee::root::sqrt(dot(vector, vector)))
 }
 
 // Four squarings.

@@ -1,14 +1,15 @@
 -- Laws of the machine's definitions that the proofs cite: a word, the loop over the words, the calls' outcomes. Assumes nothing.
 use Prim.Native.Nat.{ℕ, zero, suc, _+_, _-_, _/_, _%_, _<_, _≤_}
 use mathlib.Core.Path.{_≡_, refl, sym, ap, _∙_}
-use mathlib.Core.Bool.{Bool, true, false, cond, and-eq-true-iff}
+use mathlib.Core.Bool.{Bool, true, false, cond, and-eq-true-iff, true≢false}
 use mathlib.Core.List.{List, [], _∷_, _++_}
 use native.Mathlib.Omega.{arith}
 use native.Mathlib.Nat.{add-zero, sub-zero, le-refl}
 use native.Mathlib.Numerals.{add-one}
-use borrow.Author.Tests.{eq-eqb, ne-eqb, eqb-true, leb-true, lt-ltb, le-ltb}
+use borrow.Author.Tests.{eq-eqb, ne-eqb, eqb-true, eqb-false, leb-true, lt-ltb, le-ltb}
 use lib.IntN.{ℤ}
 use lib.Ieee.{Float}
+use lib.Bits.{bitOr}
 use lib.ListN.{length, take, drop, getD, length-drop}
 use lib.Seq.{drop-cons, drop-length, getD-drop, take-take, length-take-le, paste, paste-zero, paste-suc}
 use Rattle.screen.specs.Plane.{planeBytes}
@@ -16,16 +17,20 @@ use Rattle.screen.specs.Draw.{pixels}
 use Rattle.store.specs.Uploads.{mostWords}
 use Rattle.store.specs.declared.Kind.the-variants.{Texture, Model}
 use Rattle.settings.specs.Settings.{settingsOk}
+use Rattle.verdict.specs.Verdict.{bitsOf}
+use Rattle.verdict.specs.declared.Verdict.{Verdict}
 use Rattle.verdict.specs.declared.Reason.the-variants.{ZeroOpcode, CountTooLarge}
 use Rattle.state.specs.State.{mostPayload, begunOk, wellFormed, fresh}
 use Rattle.state.specs.declared.State.{State}
-use Rattle.execute.specs.Paints.{paintsOn}
+use Rattle.execute.specs.Paints.{picture, paintsOn}
+use Rattle.execute.specs.Commands.{paintedBy, sets}
 use Rattle.execute.specs.Control.{Keep, Seen, execute, executed}
-use Rattle.execute.specs.Kept.{Machine, machine, asBox, Formed}
+use Rattle.execute.specs.Kept.{Machine, machine, asBox, Formed, shelf, lookOn}
 use Rattle.execute.proofs.Formed.{Stands, execute-stands}
+use Rattle.execute.proofs.Executed.{paint-executed}
 use Rattle.vpu.specs.declared.frame.Frame.{Frame}
 use Rattle.vpu.specs.Framing.{word, header, gather, wordOn, run}
-use Rattle.vpu.specs.Frames.{frame, frameOf, withFrame, droppedFrame, wordFrame, wordArea, readyOf, betweenOf, gatheredFrame, Sound}
+use Rattle.vpu.specs.Frames.{frame, frameOf, withFrame, droppedFrame, wordFrame, wordArea, readyOf, betweenOf, gatheredFrame, changes, Sound}
 use Rattle.vpu.specs.Calls.{stateOf, outcome, lengthsOk, feed, cleared, reset}
 use Rattle.vpu.proofs.Words.{Case, zero-opcode, too-many, at-once, begins, last, more, case-of, idle, gathering, begun-fits, word-fits, word-begun, word-payload, area-header, area-payload, area-length, ready-idle, ready-whole, ready-wanting, between-fits, case-zero, case-many, case-begun}
 
@@ -116,6 +121,29 @@ executed-idle m s P D F C T M e =
     let g : s .gathered ≡ 0 = ap (λ (n : Machine). n .control .box .gathered) e in
     let w : s .wanted ≡ 0 = ap (λ (n : Machine). n .control .wanted) e in
     rw (o, g, w)
+
+-- ---- a command that can change neither settings nor stores
+neither : (b c : Bool) → cond b true c ≡ false → (b ≡ false) × (c ≡ false)
+neither true c h = absurd (true≢false h)
+neither false c h = (refl, h)
+
+pub paint-only : (op : ℕ) → changes op ≡ false → (sets op ≡ false) × ((op ≡ 0x17 → ⊥) × (op ≡ 0x1a → ⊥))
+unfolding changes
+paint-only op h =
+    let a = neither _ _ h in
+    let b = neither _ _ (a .1) in
+    (a .0, (eqb-false op 0x17 (b .0), eqb-false op 0x1a (b .1)))
+
+-- it paints, and leaves the state with no command begun
+pub painted-is : (s : State) (f r : Frame) (P : List ℕ) (D : List ℤ) (F : List Float) (C T M : List ℕ) (v : Verdict) (P′ : List ℕ) (D′ : List ℤ) (F′ : List Float)
+    → changes (f .opcode) ≡ false
+    → v ≡ paintedBy (lookOn (shelf (s .textures) T) (shelf (s .models) M)) (s .settings) (f .opcode) (take (f .gathered) C) .verdict
+    → picture P′ D′ F′ ≡ paintsOn (paintedBy (lookOn (shelf (s .textures) T) (shelf (s .models) M)) (s .settings) (f .opcode) (take (f .gathered) C) .paints) (picture P D F)
+    → r ≡ frame 0 0 0 (bitOr (f .status) (bitsOf v))
+    → machine (withFrame s r) P′ D′ F′ C T M ≡ executed asBox (machine (withFrame s f) P D F C T M)
+painted-is s f r P D F C T M v P′ D′ F′ h e q g =
+    let o = paint-only (f .opcode) h in
+    paint-executed (withFrame s f) P D F C T M v P′ D′ F′ (withFrame s r) (o .0) (o .1 .0) (o .1 .1) e q (ap (withFrame s) g)
 
 -- ---- words, one after the other
 module _ {X : Type 0} (K : Keep X) where
@@ -237,6 +265,30 @@ module _ {ws : List ℕ} {m₀ : Machine} {s : State} {f : Frame} {P : List ℕ}
           same-models = m ∙ held .same-models;
           rest = rw x (rw e (rw (turned true r) at (run-turn asBox ws k _ _ is-more (held .rest))));
         })
+
+    -- of a command that leaves settings and stores alone
+    pub held-painted : {f″ : Frame} {P″ : List ℕ} {D″ : List ℤ} {F″ : List Float}
+        → readyOf f′ ≡ true
+        → machine (withFrame s f″) P″ D″ F″ C′ T M ≡ executed asBox (machine (withFrame s f′) P D F C′ T M)
+        → length P″ ≡ length P → length D″ ≡ length D → length F″ ≡ length F
+        → Held ws m₀ s f″ P″ D″ F″ C′ T M (k + 1)
+    held-painted r x p d g =
+        let h = held .sound in
+        record {
+          within = omega arith;
+          sound = record {
+            of-plane = p ∙ h .of-plane;
+            of-depth = d ∙ h .of-depth;
+            of-floats = g ∙ h .of-floats;
+            of-command = same-area ∙ h .of-command;
+            begun = executed-idle _ _ _ _ _ _ _ _ x;
+            of-textures = h .of-textures;
+            of-models = h .of-models;
+          };
+          same-textures = held .same-textures;
+          same-models = held .same-models;
+          rest = rw x (rw (turned true r) at (run-turn asBox ws k _ _ is-more (held .rest)));
+        }
 
 -- ---- a run of payload words, none of them the last, is copied at once
 -- the places of word n of a run: in the command area, in what is left of the words

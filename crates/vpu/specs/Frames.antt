@@ -14,6 +14,7 @@ use Rattle.screen.specs.Draw.{pixels}
 use Rattle.store.specs.declared.Kind.the-variants.{Texture, Model}
 use Rattle.state.specs.State.{mostPayload, begunOk}
 use Rattle.state.specs.declared.State.{State}
+use Rattle.execute.specs.Commands.{sets}
 use Rattle.execute.specs.Kept.{Formed}
 use Rattle.vpu.specs.declared.frame.Frame.{Frame}
 
@@ -58,6 +59,10 @@ gatheredFrame f n = frame (f .opcode) (f .gathered + n) (f .wanted - n) (f .stat
 -- a command is begun and its payload is complete
 unfoldable pub readyOf : Frame → Bool
 readyOf f = cond (eqb (f .wanted) 0) (not (eqb (f .opcode) 0)) false
+
+-- the commands that can change settings or stores: 01, 02 and 15, 17, 1A
+unfoldable pub changes : ℕ → Bool
+changes op = cond (sets op) true (cond (eqb op 0x17) true (eqb op 0x1a))
 
 -- a machine that words may be run on: lent memories of these lengths, a begun command and stores that are well formed
 pub record Sound (s : State) (plane depth depthF command textures models : ℕ) : Type 0 where

@@ -21,22 +21,13 @@ unfolding shadeOf
 shaded albedo p n ls v rgb e f = rw (f, e)
 
 abbrev Inv-loop : tie.InvT-loop
-Inv-loop normal albedo position lights view rgb₀ i₀ rgb i = (i ≤ 8) × (length lights ≡ 8) × (litOf albedo position normal view lights rgb₀ ≡ litOf albedo position normal view (drop i lights) rgb)
+Inv-loop position normal albedo lights view rgb₀ i₀ rgb i = (i ≤ 8) × (length lights ≡ 8) × (litOf albedo position normal view lights rgb₀ ≡ litOf albedo position normal view (drop i lights) rgb)
 
 abbrev μ-loop : tie.MeasureT-loop
-μ-loop normal albedo position lights view rgb₀ i₀ rgb i = 8 - i
+μ-loop position normal albedo lights view rgb₀ i₀ rgb i = 8 - i
 
-array-read-t14 : tie.Need-array-read-t14 Inv-loop μ-loop
-array-read-t14 c = search needs
-
-array-read-t18 : tie.Need-array-read-t18 Inv-loop μ-loop
-array-read-t18 c = search needs
-
-array-read-t22 : tie.Need-array-read-t22 Inv-loop μ-loop
-array-read-t22 c = search needs
-
-normalize-requires : tie.Need-normalize-requires Inv-loop μ-loop
-normalize-requires c κs = search needs
+to-eye-requires : tie.Need-to-eye-requires Inv-loop μ-loop
+to-eye-requires c κs = search needs
 
 loop-holds : tie.Need-loop-holds Inv-loop μ-loop
 loop-holds c = (omega arith, search needs, refl)
@@ -58,19 +49,19 @@ loop-less c = omega arith
 
 -- a turn takes the light at i from what is left
 turn : (c : tie.Joined1 Inv-loop μ-loop) → c .before .before .before .loop .i < 8
-    → litOf (c .before .before .before .before .before .args .t1) (c .before .before .before .before .before .args .t2) (c .before .before .before .before .before .args .normal)
-    (c .before .before .before .before .normalize .result) (drop (c .before .before .before .loop .i) (c .before .before .before .before .before .args .t4))
+    → litOf (c .before .before .before .before .before .args .t1) (c .before .before .before .before .before .args .position) (c .before .before .before .before .before .args .normal)
+    (c .before .before .before .before .to-eye .result) (drop (c .before .before .before .loop .i) (c .before .before .before .before .before .args .t4))
     (c .before .before .before .loop .rgb)
-    ≡ litOf (c .before .before .before .before .before .args .t1) (c .before .before .before .before .before .args .t2) (c .before .before .before .before .before .args .normal)
-    (c .before .before .before .before .normalize .result) (drop (c .before .before .before .loop .i + 1) (c .before .before .before .before .before .args .t4)) (c .if1 .rgb)
+    ≡ litOf (c .before .before .before .before .before .args .t1) (c .before .before .before .before .before .args .position) (c .before .before .before .before .before .args .normal)
+    (c .before .before .before .before .to-eye .result) (drop (c .before .before .before .loop .i + 1) (c .before .before .before .before .before .args .t4)) (c .if1 .rgb)
 turn c here =
     let loop = c .before .before .before in
     let a = loop .before .before .args in
     let in-list : loop .loop .i < length (a .t4) = omega (arith, loop .loop .inv .1) in
-    let rest = litOf (a .t1) (a .t2) (a .normal) (loop .before .normalize .result) (drop (loop .loop .i + 1) (a .t4)) in
+    let rest = litOf (a .t1) (a .position) (a .normal) (loop .before .to-eye .result) (drop (loop .loop .i + 1) (a .t4)) in
     ⊎-elim
-    (λ w. lit-on (a .t1) (a .t2) (a .normal) _ (a .t4) (loop .loop .rgb) (loop .loop .i) _ in-list (w .0 .taken) ∙ ap rest (sym (w .1 .ensures) ∙ sym (w .2)))
-    (λ w. lit-off (a .t1) (a .t2) (a .normal) _ (a .t4) (loop .loop .rgb) (loop .loop .i) _ in-list (w .0 .left) ∙ ap rest (sym (w .1)))
+    (λ w. lit-on (a .t1) (a .position) (a .normal) _ (a .t4) (loop .loop .rgb) (loop .loop .i) _ in-list (w .0 .taken) ∙ ap rest (sym (w .1 .ensures) ∙ sym (w .2)))
+    (λ w. lit-off (a .t1) (a .position) (a .normal) _ (a .t4) (loop .loop .rgb) (loop .loop .i) _ in-list (w .0 .left) ∙ ap rest (sym (w .1)))
     (c .if1 .came)
 
 loop-again : tie.Need-loop-again Inv-loop μ-loop
@@ -79,24 +70,24 @@ loop-again c =
     let here : loop .loop .i < 8 = omega arith in
     (omega arith, loop .loop .inv .1, loop .loop .inv .2 ∙ turn c here)
 
-array-read-t14-2 : tie.Need-array-read-t14-2 Inv-loop μ-loop
-array-read-t14-2 c = search needs
+array-read-t21 : tie.Need-array-read-t21 Inv-loop μ-loop
+array-read-t21 c = search needs
 
-array-read-t15 : tie.Need-array-read-t15 Inv-loop μ-loop
-array-read-t15 c = search needs
+array-read-t24 : tie.Need-array-read-t24 Inv-loop μ-loop
+array-read-t24 c = search needs
 
-array-read-t18-2 : tie.Need-array-read-t18-2 Inv-loop μ-loop
-array-read-t18-2 c = search needs
+array-read-t27 : tie.Need-array-read-t27 Inv-loop μ-loop
+array-read-t27 c = search needs
 
-array-read-t19 : tie.Need-array-read-t19 Inv-loop μ-loop
-array-read-t19 c = search needs
+array-read-t30 : tie.Need-array-read-t30 Inv-loop μ-loop
+array-read-t30 c = search needs
 
 returns : tie.Need-returns Inv-loop μ-loop
 returns c =
     let start = c .before .before .before in
     let a = start .args in
-    shaded (a .t1) (a .t2) (a .normal) (a .t4) _ _ (c .before .before .normalize .ensures)
-    (sym (c .before .loop .inv .2 ∙ lit-end (a .t1) (a .t2) (a .normal) _ (a .t4) (c .before .loop .rgb) (c .before .loop .i) (omega arith)))
+    shaded (a .t1) (a .position) (a .normal) (a .t4) _ _ (c .before .before .to-eye .ensures)
+    (sym (c .before .loop .inv .2 ∙ lit-end (a .t1) (a .position) (a .normal) _ (a .t4) (c .before .loop .rgb) (c .before .loop .i) (omega arith)))
 
 pub shade-vertex-spec : {M : Type 1} → statement M
 shade-vertex-spec =
@@ -104,10 +95,7 @@ shade-vertex-spec =
     (tie.spec
     Inv-loop
     μ-loop
-    array-read-t14
-    array-read-t18
-    array-read-t22
-    normalize-requires
+    to-eye-requires
     loop-holds
     mul-light
     array-copy-out-light
@@ -115,8 +103,8 @@ shade-vertex-spec =
     add-i
     loop-less
     loop-again
-    array-read-t14-2
-    array-read-t15
-    array-read-t18-2
-    array-read-t19
+    array-read-t21
+    array-read-t24
+    array-read-t27
+    array-read-t30
     returns)

@@ -36,7 +36,7 @@ powi16-requires c κs = search needs
 
 returns : tie.Need-returns
 unfolding shineOf
-returns c = simp (c .before .if1 .taken) cc
+returns c = simp (c .before .before .before .before .if1 .taken) cc
 
 returns-2 : tie.Need-returns-2
 unfolding shineOf

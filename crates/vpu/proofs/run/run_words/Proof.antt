@@ -5,7 +5,7 @@ use native.Mathlib.Omega.{arith}
 use borrow.Author.Needs.{needs}
 use lib.ListN.{length, length-map}
 use Rattle.execute.specs.Kept.{machine}
-use Rattle.vpu.proofs.Laws.{Held, held-start, held-takes, held-word, held-runs, held-command, held-fits, held-gathered, held-end}
+use Rattle.vpu.proofs.Laws.{Held, held-start, held-takes, held-word, held-runs, held-command, held-painted, held-fits, held-gathered, held-end}
 use Rattle.vpu.proofs.run.run_words.Statement.{statement}
 use Rattle.vpu.proofs.run.run_words.Tie as tie
 
@@ -26,6 +26,9 @@ turn c = c .before .before .before
 
 abbrev framed : tie.After-execute-arg6 Inv-loop μ-loop → tie.After-with-frame Inv-loop μ-loop
 framed c = c .before .before .before .before .before .before
+
+abbrev chosen : tie.After-changes Inv-loop μ-loop → tie.After-ready Inv-loop μ-loop
+chosen c = c .before .before
 
 abbrev executed : tie.After-frame-of2 Inv-loop μ-loop → tie.After-execute Inv-loop μ-loop
 executed c = c .before .before .before .before .before .before .before .before .before .before
@@ -66,27 +69,60 @@ with-frame-requires c κs = tt
 execute-requires : tie.Need-execute-requires Inv-loop μ-loop
 execute-requires c κs =
     let f = framed c in
-    let t = took (f .before .before) in
+    let t = took (chosen (f .before .before)) in
     let i = turn t in
     let r = held-runs (i .before .loop .inv) (i .loop-test .taken) refl (t .take-word .ensures .0) (t .take-word .ensures .1) (f .with-frame .ensures) in
     (r .of-plane, (r .of-depth, (r .of-floats, (r .within, (r .of-command, (r .of-textures, r .of-models))))))
+
+changes-requires : tie.Need-changes-requires Inv-loop μ-loop
+changes-requires c κs = tt
 
 frame-of-requires-2 : tie.Need-frame-of-requires-2 Inv-loop μ-loop
 frame-of-requires-2 c κs = tt
 
 loop-less : tie.Need-loop-less Inv-loop μ-loop
-loop-less c = omega (arith, turn (took (framed (executed c .before) .before .before)))
+loop-less c = omega (arith, turn (took (chosen (framed (executed c .before) .before .before))))
 
 loop-again : tie.Need-loop-again Inv-loop μ-loop
 loop-again c =
     let x = executed c in
     let f = framed (x .before) in
-    let t = took (f .before .before) in
+    let g = f .before .before in
+    let t = took (chosen g) in
     let i = turn t in
     let kept = x .execute .kept .1 in
     held-command (i .before .loop .inv) (i .loop-test .taken) refl (t .take-word .ensures .0) (t .take-word .ensures .1)
-    (sym (f .before .before .ready .ensures) ∙ f .before .if1 .taken) (f .with-frame .ensures) (x .execute .ensures)
+    (sym (chosen g .ready .ensures) ∙ g .before .if1 .taken) (f .with-frame .ensures) (x .execute .ensures)
     (kept .0) (kept .1 .0) (kept .1 .1 .0) (kept .1 .1 .1 .1 .0) (kept .1 .1 .1 .1 .1 .0) (long-textures f) (long-models f) (c .frame-of2 .ensures)
+
+-- the turn, where the command paints and the state stays
+abbrev kept-state : tie.After-painted-arg6 Inv-loop μ-loop → tie.Else2 Inv-loop μ-loop
+kept-state c = c .before .before .before .before .before .before
+
+abbrev painted : tie.After-slice-known12 Inv-loop μ-loop → tie.After-painted Inv-loop μ-loop
+painted c = c .before .before .before .before .before
+
+painted-requires : tie.Need-painted-requires Inv-loop μ-loop
+painted-requires c κs =
+    let e = kept-state c in
+    let g = e .before in
+    let t = took (chosen g) in
+    let i = turn t in
+    let r = held-runs (i .before .loop .inv) (i .loop-test .taken) refl (t .take-word .ensures .0) (t .take-word .ensures .1) refl in
+    (sym (g .changes .ensures) ∙ e .if2 .left, (r .of-plane, (r .of-depth, (r .of-floats, (r .within, (r .of-textures .ok, r .of-models .ok))))))
+
+loop-less-2 : tie.Need-loop-less-2 Inv-loop μ-loop
+loop-less-2 c = omega (arith, turn (took (chosen (kept-state (painted c .before) .before))))
+
+loop-again-2 : tie.Need-loop-again-2 Inv-loop μ-loop
+loop-again-2 c =
+    let x = painted c in
+    let g = kept-state (x .before) .before in
+    let t = took (chosen g) in
+    let i = turn t in
+    let kept = x .painted .kept .1 .1 in
+    held-painted (i .before .loop .inv) (i .loop-test .taken) refl (t .take-word .ensures .0) (t .take-word .ensures .1)
+    (sym (chosen g .ready .ensures) ∙ g .before .if1 .taken) (x .painted .ensures) (kept .0) (kept .1 .0) (kept .1 .1 .0)
 
 -- the turn, where a word completes no command
 abbrev begun : tie.Else1 Inv-loop μ-loop → tie.In-loop Inv-loop μ-loop
@@ -130,13 +166,13 @@ add-k-2 c =
     let b = c .before .before .before .before .before in
     omega (arith, begun (b .before), read (b .before), b .between .ensures)
 
-loop-less-2 : tie.Need-loop-less-2 Inv-loop μ-loop
-loop-less-2 c =
+loop-less-3 : tie.Need-loop-less-3 Inv-loop μ-loop
+loop-less-3 c =
     let b = c .before .before .before .before .before in
     omega (arith, begun (b .before), read (b .before), b .between .ensures)
 
-loop-again-2 : tie.Need-loop-again-2 Inv-loop μ-loop
-loop-again-2 c =
+loop-again-3 : tie.Need-loop-again-3 Inv-loop μ-loop
+loop-again-3 c =
     let b = c .before .before .before .before .before in
     let e = b .before in
     let t = took (e .before) in
@@ -182,11 +218,15 @@ run-words-spec =
     add-k
     take-word-requires
     ready-requires
+    changes-requires
     with-frame-requires
     execute-requires
     frame-of-requires-2
     loop-less
     loop-again
+    painted-requires
+    loop-less-2
+    loop-again-2
     sub-between
     between-requires
     add-gather
@@ -196,8 +236,8 @@ run-words-spec =
     part-gather-end
     gather-requires
     add-k-2
-    loop-less-2
-    loop-again-2
+    loop-less-3
+    loop-again-3
     with-frame-requires-2
     same-length
     same-length-2

@@ -1,0 +1,53 @@
+-- A command that paints is the definition's, whose state is the one at hand with another frame. Assumes nothing.
+use mathlib.Core.Path.{sym, ap}
+use lib.Seq.{length-take-le}
+use Rattle.vpu.specs.Frames.{frame}
+use Rattle.vpu.proofs.Laws.{painted-is}
+use borrow.Author.Needs.{needs}
+use Rattle.vpu.proofs.run.painted.Statement.{statement}
+use Rattle.vpu.proofs.run.painted.Tie as tie
+
+cast-n : tie.Need-cast-n
+cast-n c = search needs
+
+slice-aggregate-paint : tie.Need-slice-aggregate-paint
+slice-aggregate-paint c =
+    let start = c .before .before .before .before .before .before .before .before .before .before in
+    sym (length-take-le (start .args .f .gathered) (start .args .command .now) (start .pre .1 .1 .1 .1 .0))
+
+paint-requires : tie.Need-paint-requires
+paint-requires c κs =
+    let start = c .before .before .before .before .before .before .before .before .before .before .before .before .before in
+    let p = start .pre in
+    (p .1 .0, (p .1 .1 .0, (p .1 .1 .1 .0, (p .1 .1 .1 .1 .1 .0, p .1 .1 .1 .1 .1 .1))))
+
+status-after-requires : tie.Need-status-after-requires
+status-after-requires c κs = search needs
+
+same-length : tie.Need-same-length
+same-length c = search needs
+
+same-length-2 : tie.Need-same-length-2
+same-length-2 c = search needs
+
+same-length-3 : tie.Need-same-length-3
+same-length-3 c = search needs
+
+returns : tie.Need-returns
+returns c =
+    let d = c .before .before .before .before .before .before in
+    let start = d .before .before .before .before .before .before .before .before .before .before .before .before .before .before in
+    painted-is (start .args .s) (start .args .f) _ _ _ _ _ _ _ _ _ _ _ (start .pre .0) (d .paint .ensures .0) (d .paint .ensures .1) (ap (λ n. frame 0 0 0 n) (c .status-after .ensures))
+
+pub painted-spec : {M : Type 1} → statement M
+painted-spec =
+    tie.close
+    (tie.spec
+    cast-n
+    slice-aggregate-paint
+    paint-requires
+    status-after-requires
+    same-length
+    same-length-2
+    same-length-3
+    returns)
