@@ -2,42 +2,24 @@
 // that are neither 0 nor 1. A call that is refused must answer by number and leave the state and all memory as they
 // were. Linked with the archive of the crate vpu_c; oracle/refusals builds it.
 #include <stdbool.h>
-#include <stddef.h>
-#include <stdint.h>
 #include <stdio.h>
 #include <stdlib.h>
 #include <string.h>
 
-typedef struct {
-    uint8_t enabled;
-    float ambient[3], diffuse[3], specular[3], emission[3], position[3];
-} light;
+#include "vpu.h"
 
-typedef struct {
-    uint8_t held;
-    uint32_t number, width, height, start;
-} slot;
+typedef vpu_light light;
+typedef vpu_slot slot;
+typedef vpu_state state;
+typedef vpu_fed fed;
 
-typedef struct {
-    float matrices[48];
-    uint32_t shading_mode;
-    uint8_t lighting_enabled;
-    light lights[8];
-    slot textures[64], models[64];
-    uint32_t opcode, gathered, wanted, status;
-} state;
-
-typedef struct {
-    uint32_t answer;
-    state state;
-} fed;
-
-fed vpu_reset(uint8_t *, size_t, int32_t *, size_t, float *, size_t, const uint32_t *, size_t, uint32_t *, size_t,
-              uint32_t *, size_t);
-fed vpu_feed(state, const uint32_t *, size_t, uint8_t *, size_t, int32_t *, size_t, float *, size_t, uint32_t *, size_t,
-             uint32_t *, size_t, uint32_t *, size_t);
-
-enum { PLANE = 307200, PIXELS = 76800, COMMAND = 524291, MOST = 16777216, SMALL = 64 };
+enum {
+    PLANE = VPU_PLANE_BYTES,
+    PIXELS = VPU_PIXELS,
+    COMMAND = VPU_COMMAND_WORDS,
+    MOST = VPU_STORE_WORDS_MOST,
+    SMALL = 64
+};
 
 static struct {
     uint8_t plane[PLANE];
