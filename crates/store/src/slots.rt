@@ -8,7 +8,7 @@ ghost use mathlib.Core.Path.{_≡_};
 ghost use Prim.Native.Nat.{_+_, _≤_, _<_};
 ghost use lib.ListN.{length};
 ghost use Rattle.store.specs.Uploads.{without, total, mostWords, slotCount, room};
-ghost use Rattle.store.specs.Slots.{areaOf, told, slotFor, slotsOf, slotsAfter, cardOf, stays};
+ghost use Rattle.store.specs.Slots.{areaOf, told, slotFor, slotsOf, slotsAfter, cardOf, stays, blanked};
 
 // The held slot with this number.
 pub fn find(slots: [Slot; SLOTS], number: u32) -> Found
@@ -92,17 +92,34 @@ fn keeps(s: Slot, number: u32) -> bool
     false
 }
 
-// The uploads under other numbers, closed up.
+// The slots with those under the number made unused, each where it stands.
+pub fn blank(slots: [Slot; SLOTS], number: u32) -> [Slot; SLOTS]
+    ensures { λ r. ⌜ r ≡ blanked number slots ⌝ }
+{
+    let mut out = [Slot::UNUSED; SLOTS];
+    let mut i = 0;
+    while i < SLOTS {
+        let s = slots[i];
+        if keeps(s, number) {
+            out[i] = s;
+        }
+        i += 1;
+    }
+    out
+}
+
+// Slots closed up, how many are held, and how many words they take.
 pub struct Left {
     pub slots: [Slot; SLOTS],
     pub count: usize,
     pub total: usize,
 }
 
-fn others(kind: Kind, slots: [Slot; SLOTS], number: u32) -> Left
+// The held slots, closed up: areas back to back from word 0.
+pub fn closed(kind: Kind, slots: [Slot; SLOTS]) -> Left
     requires { ⌜ total (told kind slots) ≤ mostWords ⌝ }
-    ensures { λ r. ⌜ r .slots ≡ slotsOf (without number (told kind slots)) ⌝ }
-    ensures { λ r. ⌜ (r .count ≡ length (without number (told kind slots))) × (r .total ≡ total (without number (told kind slots))) ⌝ }
+    ensures { λ r. ⌜ r .slots ≡ slotsOf (told kind slots) ⌝ }
+    ensures { λ r. ⌜ (r .count ≡ length (told kind slots)) × (r .total ≡ total (told kind slots)) ⌝ }
 {
     let mut out = [Slot::UNUSED; SLOTS];
     let mut i = 0;
@@ -111,7 +128,7 @@ fn others(kind: Kind, slots: [Slot; SLOTS], number: u32) -> Left
     while i < SLOTS {
         let s = slots[i];
         i += 1;
-        if keeps(s, number) {
+        if s.held {
             out[count] = Slot {
                 held: true,
                 number: s.number,
@@ -142,7 +159,7 @@ pub fn slots_after(
     requires { ⌜ length (without number (told kind slots)) < slotCount ⌝ }
     ensures { λ r. ⌜ r ≡ slotsAfter (cardOf kind number width height) (told kind slots) ⌝ }
 {
-    let left = others(kind, slots, number);
+    let left = closed(kind, blank(slots, number));
     let i = left.count;
     let mut out = left.slots;
     out[i] = Slot {
