@@ -6,7 +6,7 @@ use lib.Dec.{eqb}
 use lib.ListN.{set}
 use lib.Ieee.{Float}
 use Rattle.vector.specs.Three.{_⊕_, _⊖_, _·_, at, normalOf}
-use Rattle.light.specs.Light.{shadeOf}
+use Rattle.light.specs.Light.{rowOf, shadeOf}
 use Rattle.light.specs.declared.Light.{Light}
 use Rattle.clip.specs.declared.vertex.ClipVertex.{ClipVertex}
 use Rattle.decide.specs.Corners.{corner}
@@ -59,6 +59,13 @@ faceNormal tri = crossOf (edgeOf (corner tri 0) (corner tri 1)) (edgeOf (corner 
 
 abbrev pub faceLit : List Light → List Float → ClipVertex → ClipVertex
 faceLit lights normal v = withColor v (shadedBy lights v normal)
+
+-- each by the normal given for it
+abbrev pub litEach : List Light → List (List Float) → List ClipVertex → List ClipVertex
+litEach lights normals tri =
+    faceLit lights (rowOf normals 0) (corner tri 0)
+    ∷ faceLit lights (rowOf normals 1) (corner tri 1)
+    ∷ faceLit lights (rowOf normals 2) (corner tri 2) ∷ []
 
 abbrev pub firstLit : List Light → List ClipVertex → List Float → List ClipVertex
 firstLit lights tri normal = set tri 0 (faceLit lights normal (corner tri 0))

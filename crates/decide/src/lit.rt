@@ -1,10 +1,11 @@
 // What lighting makes of the three corners.
 use clip::vertex::ClipVertex;
 use light::Light;
+use light::shade_three;
 use light::shade_vertex;
 use vector::three::normalize;
 ghost use mathlib.Core.Path.{_≡_};
-ghost use Rattle.decide.specs.Lit.{withColor, shadedBy, meanNormal, oneColor, ownLit, eachLit, edgeOf, crossOf, faceNormal, faceLit, transformedLit, texturedLit};
+ghost use Rattle.decide.specs.Lit.{withColor, shadedBy, litEach, meanNormal, oneColor, ownLit, eachLit, edgeOf, crossOf, faceNormal, faceLit, transformedLit, texturedLit};
 
 fn with_color(v: ClipVertex, color: [f32; 4]) -> ClipVertex
     ensures { λ r. ⌜ r ≡ withColor v color ⌝ }
@@ -22,18 +23,11 @@ fn shaded(v: ClipVertex, normal: [f32; 3], lights: [Light; 8]) -> [f32; 4]
     shade_vertex(color, position, normal, lights)
 }
 
-// The vertex lit by the face's normal, and by its own.
+// The vertex lit by the face's normal.
 fn face_lit(v: ClipVertex, normal: [f32; 3], lights: [Light; 8]) -> ClipVertex
     ensures { λ r. ⌜ r ≡ faceLit lights normal v ⌝ }
 {
     with_color(v, shaded(v, normal, lights))
-}
-
-fn own_lit(v: ClipVertex, lights: [Light; 8]) -> ClipVertex
-    ensures { λ r. ⌜ r ≡ ownLit lights v ⌝ }
-{
-    let normal = v.normal;
-    face_lit(v, normal, lights)
 }
 
 fn mean_normal(tri: [ClipVertex; 3]) -> [f32; 3]
@@ -59,14 +53,42 @@ fn one_color(tri: [ClipVertex; 3], color: [f32; 4]) -> [ClipVertex; 3]
     ]
 }
 
+// Each vertex by the normal that is given for it.
+fn lit_each(tri: [ClipVertex; 3], normals: [[f32; 3]; 3], lights: [Light; 8]) -> [ClipVertex; 3]
+    ensures { λ r. ⌜ r ≡ litEach lights normals tri ⌝ }
+{
+    let v0 = tri[0];
+    let v1 = tri[1];
+    let v2 = tri[2];
+    let albedo0 = v0.color;
+    let albedo1 = v1.color;
+    let albedo2 = v2.color;
+    let position0 = v0.view_position;
+    let position1 = v1.view_position;
+    let position2 = v2.view_position;
+    let colors = shade_three(
+        [albedo0, albedo1, albedo2],
+        [position0, position1, position2],
+        normals,
+        lights,
+    );
+    [
+        with_color(v0, colors[0]),
+        with_color(v1, colors[1]),
+        with_color(v2, colors[2]),
+    ]
+}
+
 fn own_lit_each(tri: [ClipVertex; 3], lights: [Light; 8]) -> [ClipVertex; 3]
     ensures { λ r. ⌜ r ≡ eachLit (ownLit lights) tri ⌝ }
 {
-    [
-        own_lit(tri[0], lights),
-        own_lit(tri[1], lights),
-        own_lit(tri[2], lights),
-    ]
+    let v0 = tri[0];
+    let v1 = tri[1];
+    let v2 = tri[2];
+    let normal0 = v0.normal;
+    let normal1 = v1.normal;
+    let normal2 = v2.normal;
+    lit_each(tri, [normal0, normal1, normal2], lights)
 }
 
 // 14 and 16.
@@ -125,11 +147,7 @@ fn face_normal(tri: [ClipVertex; 3]) -> [f32; 3]
 fn face_lit_each(tri: [ClipVertex; 3], normal: [f32; 3], lights: [Light; 8]) -> [ClipVertex; 3]
     ensures { λ r. ⌜ r ≡ eachLit (faceLit lights normal) tri ⌝ }
 {
-    [
-        face_lit(tri[0], normal, lights),
-        face_lit(tri[1], normal, lights),
-        face_lit(tri[2], normal, lights),
-    ]
+    lit_each(tri, [normal, normal, normal], lights)
 }
 
 // 18 and 19. Mode 0 is not lit, and of mode 1 vertex 0 alone.

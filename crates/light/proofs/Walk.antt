@@ -7,7 +7,8 @@ use native.Mathlib.Numerals.{add-one}
 use lib.Ieee.{Float}
 use lib.ListN.{length, getD, drop, drop-of-length-le}
 use lib.Seq.{drop-cons}
-use Rattle.light.specs.Light.{addedOf, litOf}
+use Rattle.vector.specs.Three.{at}
+use Rattle.light.specs.Light.{none, viewOf, addedOf, litOf, withAlpha, shadeOf}
 use Rattle.light.specs.declared.Light.{Light}
 
 picks-first : {A : Type 0} (b : Bool) (x y : A) → b ≡ true → cond b x y ≡ x
@@ -31,3 +32,9 @@ module _ (albedo p n v : List Float) (ls : List Light) (rgb : List Float) (i : �
   pub lit-end : length ls ≤ i → litOf albedo p n v (drop i ls) rgb ≡ rgb
   unfolding litOf
   lit-end h = rw (drop-of-length-le ls h)
+
+-- what the loop leaves, with the albedo's alpha, is the definition's
+pub shaded : (albedo p n : List Float) (ls : List Light) (v rgb : List Float) → v ≡ viewOf p → rgb ≡ litOf albedo p n v ls none
+    → withAlpha rgb (at albedo 3) ≡ shadeOf albedo p n ls
+unfolding shadeOf
+shaded albedo p n ls v rgb e f = rw (f, e)

@@ -3,6 +3,7 @@ use Prim.Native.Nat.{ℕ}
 use mathlib.Core.Bool.{false, cond}
 use mathlib.Core.List.{List, [], _∷_}
 use lib.Ieee.{Float, neg, lt}
+use lib.ListN.{getD}
 use Rattle.ieee.specs.Units.{zero32}
 use Rattle.ieee.specs.Range.{maxOf}
 use Rattle.vector.specs.Three.{_⊕_, _⊖_, _·_, at, dotOf, normalOf, power16}
@@ -60,3 +61,13 @@ withAlpha rgb a = at rgb 0 ∷ at rgb 1 ∷ at rgb 2 ∷ a ∷ []
 
 unfoldable pub shadeOf : List Float → List Float → List Float → List Light → List Float
 shadeOf albedo p n lights = withAlpha (litOf albedo p n (viewOf p) lights none) (at albedo 3)
+
+-- .. of three corners; corner k has the k-th of each list
+abbrev pub rowOf : List (List Float) → ℕ → List Float
+rowOf rows k = getD rows k []
+
+abbrev pub shadeAt : List (List Float) → List (List Float) → List (List Float) → List Light → ℕ → List Float
+shadeAt albedos ps ns lights k = shadeOf (rowOf albedos k) (rowOf ps k) (rowOf ns k) lights
+
+abbrev pub shadeEach : List (List Float) → List (List Float) → List (List Float) → List Light → List (List Float)
+shadeEach albedos ps ns lights = shadeAt albedos ps ns lights 0 ∷ shadeAt albedos ps ns lights 1 ∷ shadeAt albedos ps ns lights 2 ∷ []

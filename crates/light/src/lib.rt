@@ -3,7 +3,8 @@ use vector::three::dot;
 use vector::three::normalize;
 ghost use mathlib.Core.Path.{_≡_};
 ghost use Prim.Native.Nat.{_<_};
-ghost use Rattle.light.specs.Light.{disabled, viewOf, toLightOf, shineOf, termOf, addedOf, shadeOf};
+ghost use Rattle.vector.specs.Three.{at};
+ghost use Rattle.light.specs.Light.{disabled, viewOf, toLightOf, shineOf, termOf, addedOf, withAlpha, shadeOf, shadeEach};
 
 pub struct Light {
     pub enabled: bool,
@@ -117,4 +118,48 @@ pub fn shade_vertex(
         i += 1;
     }
     [rgb[0], rgb[1], rgb[2], albedo[3]]
+}
+
+fn with_alpha(rgb: [f32; 3], albedo: [f32; 4]) -> [f32; 4]
+    ensures { λ r. ⌜ r ≡ withAlpha rgb (at albedo 3) ⌝ }
+{
+    [rgb[0], rgb[1], rgb[2], albedo[3]]
+}
+
+// The three corners of a triangle in one loop, so that the lights are taken once.
+pub fn shade_three(
+    albedos: [[f32; 4]; 3],
+    positions: [[f32; 3]; 3],
+    normals: [[f32; 3]; 3],
+    lights: [Light; 8],
+) -> [[f32; 4]; 3]
+    ensures { λ r. ⌜ r ≡ shadeEach albedos positions normals lights ⌝ }
+{
+    let views = [
+        to_eye(positions[0]),
+        to_eye(positions[1]),
+        to_eye(positions[2]),
+    ];
+    let mut rgb = [[0.0, 0.0, 0.0]; 3];
+    let mut i: usize = 0;
+    while i < 24 {
+        let light = lights[i % 8];
+        let v = i / 8;
+        if light.enabled {
+            rgb[v] = add_light(
+                rgb[v],
+                albedos[v],
+                positions[v],
+                normals[v],
+                views[v],
+                light,
+            );
+        }
+        i += 1;
+    }
+    [
+        with_alpha(rgb[0], albedos[0]),
+        with_alpha(rgb[1], albedos[1]),
+        with_alpha(rgb[2], albedos[2]),
+    ]
 }

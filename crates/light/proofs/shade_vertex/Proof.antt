@@ -4,21 +4,11 @@ use mathlib.Core.Path.{_≡_, refl, sym, ap, _∙_}
 use native.Mathlib.Omega.{arith}
 use borrow.Author.Needs.{needs}
 use lib.ListN.{length, drop}
-use mathlib.Core.List.{List}
-use lib.Ieee.{Float}
-use Rattle.vector.specs.Three.{at}
-use Rattle.light.specs.Light.{none, viewOf, litOf, withAlpha, shadeOf}
-use Rattle.light.specs.declared.Light.{Light}
+use Rattle.light.specs.Light.{litOf}
 use mathlib.Core.Logic.{⊎-elim}
-use Rattle.light.proofs.Walk.{lit-on, lit-off, lit-end}
+use Rattle.light.proofs.Walk.{lit-on, lit-off, lit-end, shaded}
 use Rattle.light.proofs.shade_vertex.Statement.{statement}
 use Rattle.light.proofs.shade_vertex.Tie as tie
-
--- what the loop leaves, with the albedo's alpha, is the definition's
-shaded : (albedo p n : List Float) (ls : List Light) (v rgb : List Float) → v ≡ viewOf p → rgb ≡ litOf albedo p n v ls none
-    → withAlpha rgb (at albedo 3) ≡ shadeOf albedo p n ls
-unfolding shadeOf
-shaded albedo p n ls v rgb e f = rw (f, e)
 
 abbrev Inv-loop : tie.InvT-loop
 Inv-loop position normal albedo lights view rgb₀ i₀ rgb i = (i ≤ 8) × (length lights ≡ 8) × (litOf albedo position normal view lights rgb₀ ≡ litOf albedo position normal view (drop i lights) rgb)
