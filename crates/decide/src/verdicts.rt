@@ -15,7 +15,7 @@ ghost use mathlib.Core.Path.{_≡_};
 ghost use mathlib.Core.Bool.{true, false};
 ghost use Prim.Native.Nat.{_<_};
 ghost use lib.ListN.{length};
-ghost use Rattle.decide.specs.Corners.{wordsOf, cornersOf};
+ghost use Rattle.decide.specs.Corners.{wordsOf, cornersOf, normalMatrixOf};
 ghost use Rattle.decide.specs.Verdicts.{invertibleOf, finite4, reachedOf, inputsOf, plainVertex, plainOf, transformedBy, transformedVerdict, texturedBy, checkedVerdict};
 
 fn invertible(inverse: Inverse) -> Verdict
@@ -138,13 +138,14 @@ pub fn transformed(p: &[u32], has_normal: bool, m: &[f32; 48]) -> Checked
     }
 }
 
-// 18, and with normals 19, whose mode is in range and whose texture is held.
-pub fn textured(p: &[u32], has_normal: bool, m: &[f32; 48]) -> Checked
+// 18, and with normals 19, whose mode is in range and whose texture is held. The matrix for normals
+// is in hand: the records of a model have one.
+pub fn textured(p: &[u32], has_normal: bool, m: &[f32; 48], inverse: Inverse) -> Checked
     requires { ⌜ length (now p) ≡ wordsOf «has_normal» true ⌝ }
+    requires { ⌜ inverse ≡ normalMatrixOf (now m) «has_normal» ⌝ }
     ensures { λ r. ⌜ r .verdict ≡ checkedVerdict (now (p .entry)) «has_normal» (now (m .entry)) ⌝ }
     ensures { λ r. ⌜ r .corners ≡ cornersOf (now (p .entry)) «has_normal» true (now (m .entry)) ⌝ }
 {
-    let inverse = normal_matrix(m, has_normal);
     let tri = corners(p, has_normal, true, m, or_zero(inverse));
     let verdict = textured_by(p, has_normal, inverse, tri);
     Checked {

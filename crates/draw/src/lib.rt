@@ -11,6 +11,7 @@ use store::SLOTS;
 use store::Slot;
 use stroke::Brush;
 use stroke::Texture;
+use vector::normal::Inverse;
 use verdict::Reason;
 use verdict::Verdict;
 ghost use mathlib.Core.Path.{_≡_};
@@ -25,7 +26,7 @@ ghost use Rattle.stroke.specs.Strokes.{sheet, strokesOn};
 ghost use Rattle.store.specs.Uploads.{isSome};
 ghost use Rattle.store.specs.Slots.{areaOf, sidesOk, slotsOk, lookIn};
 ghost use Rattle.store.specs.declared.Kind.the-variants as kind;
-ghost use Rattle.decide.specs.Corners.{wordsOf};
+ghost use Rattle.decide.specs.Corners.{wordsOf, normalMatrixOf};
 ghost use Rattle.decide.specs.Verdicts.{transformedVerdict, checkedVerdict, texturedVerdict, triangleOf, recordsVerdict};
 ghost use Rattle.draw.specs.Draws.{flatColor, shadedBrush, transformedStrokes, texturedBrush, heldStrokes, texturedStrokes, recordsStrokes, modelVerdict, modelStrokes, hasIn};
 
@@ -106,26 +107,28 @@ fn textured_brush(slot: Slot, mode: u32, tri: [ClipVertex; 3]) -> Brush
     })
 }
 
-// 18 and 19 whose mode is in range, with the texture in hand.
+// 18 and 19 whose mode is in range, with the texture and the matrix for normals in hand.
 fn draw_held(
     plane: &mut [u8],
     depth_f32: &mut [f32],
     p: &[u32],
     has_normal: bool,
     s: Settings,
+    inverse: Inverse,
     slot: Slot,
     texels: &[u32],
 ) -> Verdict
     requires { ⌜ length (now plane) ≡ planeBytes ⌝ }
     requires { ⌜ length (now «depth_f32») ≡ pixels ⌝ }
     requires { ⌜ length (now p) ≡ wordsOf «has_normal» true ⌝ }
+    requires { ⌜ inverse ≡ normalMatrixOf (s .matrices) «has_normal» ⌝ }
     requires { ⌜ sidesOk kind.Texture (slot .width) (slot .height) ≡ true ⌝ }
     requires { ⌜ length (now texels) ≡ areaOf kind.Texture (slot .width) (slot .height) ⌝ }
     ensures { λ r. ⌜ r ≡ checkedVerdict (now (p .entry)) «has_normal» (s .matrices) ⌝ }
     ensures { λ _. ⌜ sheet (now (plane .exit)) (now («depth_f32» .exit)) ≡ strokesOn (heldStrokes s (now (p .entry)) «has_normal» (slot .width) (slot .height) (now (texels .entry))) (sheet (now (plane .entry)) (now («depth_f32» .entry))) ⌝ }
 {
     let m = s.matrices;
-    let checked = decide::verdicts::textured(p, has_normal, &m);
+    let checked = decide::verdicts::textured(p, has_normal, &m, inverse);
     let verdict = checked.verdict;
     let corners = checked.corners;
     match verdict {
@@ -164,19 +167,21 @@ fn not_held() -> Verdict
     }
 }
 
-// 18, and with normals 19.
-pub fn draw_textured_triangle(
+// 18, and with normals 19, with the matrix for normals in hand.
+fn draw_textured_by(
     plane: &mut [u8],
     depth_f32: &mut [f32],
     p: &[u32],
     has_normal: bool,
     s: Settings,
+    inverse: Inverse,
     slots: [Slot; SLOTS],
     textures: &[u32],
 ) -> Verdict
     requires { ⌜ length (now plane) ≡ planeBytes ⌝ }
     requires { ⌜ length (now «depth_f32») ≡ pixels ⌝ }
     requires { ⌜ length (now p) ≡ wordsOf «has_normal» true ⌝ }
+    requires { ⌜ inverse ≡ normalMatrixOf (s .matrices) «has_normal» ⌝ }
     requires { ⌜ slotsOk kind.Texture (length (now textures)) 0 slots ≡ true ⌝ }
     ensures { λ r. ⌜ r ≡ texturedVerdict (now (p .entry)) «has_normal» (isSome (lookIn kind.Texture slots (now (textures .entry)) (getD (now (p .entry)) 0 0))) (s .matrices) ⌝ }
     ensures { λ _. ⌜ sheet (now (plane .exit)) (now («depth_f32» .exit)) ≡ strokesOn (texturedStrokes s (now (p .entry)) «has_normal» (lookIn kind.Texture slots (now (textures .entry)) (getD (now (p .entry)) 0 0))) (sheet (now (plane .entry)) (now («depth_f32» .entry))) ⌝ }
@@ -200,9 +205,32 @@ pub fn draw_textured_triangle(
         p,
         has_normal,
         s,
+        inverse,
         slot,
         &textures[start..start + size],
     )
+}
+
+// 18, and with normals 19.
+pub fn draw_textured_triangle(
+    plane: &mut [u8],
+    depth_f32: &mut [f32],
+    p: &[u32],
+    has_normal: bool,
+    s: Settings,
+    slots: [Slot; SLOTS],
+    textures: &[u32],
+) -> Verdict
+    requires { ⌜ length (now plane) ≡ planeBytes ⌝ }
+    requires { ⌜ length (now «depth_f32») ≡ pixels ⌝ }
+    requires { ⌜ length (now p) ≡ wordsOf «has_normal» true ⌝ }
+    requires { ⌜ slotsOk kind.Texture (length (now textures)) 0 slots ≡ true ⌝ }
+    ensures { λ r. ⌜ r ≡ texturedVerdict (now (p .entry)) «has_normal» (isSome (lookIn kind.Texture slots (now (textures .entry)) (getD (now (p .entry)) 0 0))) (s .matrices) ⌝ }
+    ensures { λ _. ⌜ sheet (now (plane .exit)) (now («depth_f32» .exit)) ≡ strokesOn (texturedStrokes s (now (p .entry)) «has_normal» (lookIn kind.Texture slots (now (textures .entry)) (getD (now (p .entry)) 0 0))) (sheet (now (plane .entry)) (now («depth_f32» .entry))) ⌝ }
+{
+    let m = s.matrices;
+    let inverse = decide::corner::normal_matrix(&m, has_normal);
+    draw_textured_by(plane, depth_f32, p, has_normal, s, inverse, slots, textures)
 }
 
 // A record of a model, with the mode between its number and its vertices.
@@ -240,11 +268,22 @@ fn draw_records(
     ensures { λ r. ⌜ r ≡ recordsVerdict mode (hasIn (lookIn kind.Texture slots (now (textures .entry)))) (s .matrices) n (now (words .entry)) ⌝ }
     ensures { λ _. ⌜ sheet (now (plane .exit)) (now («depth_f32» .exit)) ≡ strokesOn (recordsStrokes s mode (lookIn kind.Texture slots (now (textures .entry))) n (now (words .entry))) (sheet (now (plane .entry)) (now («depth_f32» .entry))) ⌝ }
 {
+    let m = s.matrices;
+    let inverse = decide::corner::normal_matrix(&m, true);
     let mut verdict = Verdict::Done;
     let mut k: usize = 0;
     while k < n {
         let triangle = triangle_of(words, 28 * k, mode);
-        let one = draw_textured_triangle(plane, depth_f32, &triangle, true, s, slots, textures);
+        let one = draw_textured_by(
+            plane,
+            depth_f32,
+            &triangle,
+            true,
+            s,
+            inverse,
+            slots,
+            textures,
+        );
         verdict = and_then(verdict, one);
         k += 1;
     }

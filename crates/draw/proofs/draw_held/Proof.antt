@@ -23,7 +23,7 @@ textured-brush-requires c κs = search needs
 paint-requires : tie.Need-paint-requires
 paint-requires c κs =
     let start = c .before .before .before .before .before .before .before .before .before .before .before .before .before .before .before .before in
-    (start .pre .0, (start .pre .1 .0, textured-stored _ _ _ _ _ _ (c .textured-brush .ensures) (start .pre .1 .1 .1 .0) (start .pre .1 .1 .1 .1)))
+    (start .pre .0, (start .pre .1 .0, textured-stored _ _ _ _ _ _ (c .textured-brush .ensures) (start .pre .1 .1 .1 .1 .0) (start .pre .1 .1 .1 .1 .1)))
 
 enum-told-2 : tie.Need-enum-told-2
 enum-told-2 c = search needs

@@ -14,33 +14,39 @@ use Rattle.draw.proofs.draw_records.Statement.{statement}
 use Rattle.draw.proofs.draw_records.Tie as tie
 
 abbrev Inv-loop : tie.InvT-loop
-Inv-loop plane₀ depth-f32₀ s slots textures mode words n verdict₀ k₀ plane depth-f32 verdict k =
+Inv-loop plane₀ depth-f32₀ s slots textures mode words n inverse verdict₀ k₀ plane depth-f32 verdict k =
     Left s mode (lookIn Texture slots textures) words n (sheet plane₀ depth-f32₀) (sheet plane depth-f32) verdict k
     × ((length plane ≡ planeBytes) × (length depth-f32 ≡ pixels))
 
 abbrev μ-loop : tie.MeasureT-loop
-μ-loop plane₀ depth-f32₀ s slots textures mode words n verdict₀ k₀ plane depth-f32 verdict k = n - k
+μ-loop plane₀ depth-f32₀ s slots textures mode words n inverse verdict₀ k₀ plane depth-f32 verdict k = n - k
+
+abbrev start-of : tie.At-loop Inv-loop μ-loop → tie.Start Inv-loop μ-loop
+start-of c = c .before .before .before .before .before .before .before .before
+
+normal-matrix-requires : tie.Need-normal-matrix-requires Inv-loop μ-loop
+normal-matrix-requires c κs = search needs
 
 loop-holds : tie.Need-loop-holds Inv-loop μ-loop
 loop-holds c =
-    let start = c .before .before .before .before in
+    let start = c .before .before .before .before .before .before .before in
     (left-all _ _ _ _ _ _, (start .pre .0, start .pre .1 .0))
 
 mul-triangle-of : tie.Need-mul-triangle-of Inv-loop μ-loop
 mul-triangle-of c = omega arith
 
 triangle-of-requires : tie.Need-triangle-of-requires Inv-loop μ-loop
-triangle-of-requires c κs = omega (arith, c .before .before .before .before .before .before .pre)
+triangle-of-requires c κs = omega (arith, start-of (c .before) .pre)
 
-slice-aggregate-draw-textured-triangle :
-    tie.Need-slice-aggregate-draw-textured-triangle Inv-loop μ-loop
-slice-aggregate-draw-textured-triangle c = search needs
+slice-aggregate-draw-textured-by :
+    tie.Need-slice-aggregate-draw-textured-by Inv-loop μ-loop
+slice-aggregate-draw-textured-by c = search needs
 
-draw-textured-triangle-requires : tie.Need-draw-textured-triangle-requires Inv-loop μ-loop
-draw-textured-triangle-requires c κs =
-    let start = c .before .before .before .before .before .before .before .before .before .before in
-    let inv = c .before .before .before .before .before .loop .inv in
-    (inv .1 .0, (inv .1 .1, (search needs, start .pre .1 .1 .0)))
+draw-textured-by-requires : tie.Need-draw-textured-by-requires Inv-loop μ-loop
+draw-textured-by-requires c κs =
+    let at-loop = c .before .before .before .before .before in
+    let inv = at-loop .loop .inv in
+    (inv .1 .0, (inv .1 .1, (search needs, (at-loop .before .normal-matrix .ensures, start-of at-loop .pre .1 .1 .0))))
 
 and-then-requires : tie.Need-and-then-requires Inv-loop μ-loop
 and-then-requires c κs = search needs
@@ -56,10 +62,9 @@ loop-again c =
     let drawn = c .before .before .before .before .before in
     let made = drawn .before .before .before .before in
     let at-loop = made .before .before in
-    let start = at-loop .before .before .before .before .before in
     let is = made .triangle-of .ensures in
-    let next = left-next _ _ _ _ _ _ _ _ _ (drawn .draw-textured-triangle .result) (at-loop .loop .k) (at-loop .loop .inv .0) (made .before .loop-test .taken)
-    (rw is at (drawn .draw-textured-triangle .ensures .0)) (rw is at (drawn .draw-textured-triangle .ensures .1)) in
+    let next = left-next _ _ _ _ _ _ _ _ _ (drawn .draw-textured-by .result) (at-loop .loop .k) (at-loop .loop .inv .0) (made .before .loop-test .taken)
+    (rw is at (drawn .draw-textured-by .ensures .0)) (rw is at (drawn .draw-textured-by .ensures .1)) in
     (rw (c .and-then .ensures) next, (search needs, search needs))
 
 same-length : tie.Need-same-length Inv-loop μ-loop
@@ -79,11 +84,12 @@ draw-records-spec =
     (tie.spec
     Inv-loop
     μ-loop
+    normal-matrix-requires
     loop-holds
     mul-triangle-of
     triangle-of-requires
-    slice-aggregate-draw-textured-triangle
-    draw-textured-triangle-requires
+    slice-aggregate-draw-textured-by
+    draw-textured-by-requires
     and-then-requires
     add-k
     loop-less

@@ -5,9 +5,6 @@ use Rattle.decide.specs.Verdicts.{checkedVerdict}
 use Rattle.decide.proofs.verdicts.textured.Statement.{statement}
 use Rattle.decide.proofs.verdicts.textured.Tie as tie
 
-normal-matrix-requires : tie.Need-normal-matrix-requires
-normal-matrix-requires c κs = search needs
-
 or-zero-requires : tie.Need-or-zero-requires
 or-zero-requires c κs = search needs
 
@@ -19,13 +16,16 @@ textured-by-requires c κs = search needs
 
 returns : tie.Need-returns
 unfolding cornersOf checkedVerdict
-returns c = (rw (c .textured-by .ensures, c .before .corners .ensures, c .before .before .or-zero .ensures, c .before .before .before .normal-matrix .ensures), rw (c .before .corners .ensures, c .before .before .or-zero .ensures, c .before .before .before .normal-matrix .ensures))
+returns c =
+    let corners = c .before in
+    let zero = corners .before in
+    let is = zero .before .before .pre .1 in
+    (rw (c .textured-by .ensures, corners .corners .ensures, zero .or-zero .ensures, is), rw (corners .corners .ensures, zero .or-zero .ensures, is))
 
 pub textured-spec : {M : Type 1} → statement M
 textured-spec =
     tie.close
     (tie.spec
-    normal-matrix-requires
     or-zero-requires
     corners-requires
     textured-by-requires
