@@ -1,4 +1,7 @@
 pub mod Words
+pub mod Left
 pub mod Laws
+pub mod SameRun
+pub mod Changed
 pub mod Once
 pub mod Returned

@@ -1,3 +1,4 @@
 pub mod Framing
 pub mod Frames
+pub mod Ahead
 pub mod Calls
