@@ -55,11 +55,7 @@ trait Side {
     fn feed(&mut self, words: &[u32]);
 
     fn round(&mut self, work: &Work) {
-        if work.word_by_word {
-            work.words.iter().for_each(|word| self.feed(std::slice::from_ref(word)));
-        } else {
-            self.feed(&work.words);
-        }
+        work.words.chunks(work.per_call).for_each(|words| self.feed(words));
     }
 
     /// Nanoseconds of so many rounds.

@@ -16,8 +16,8 @@ pub struct Work {
     pub before: Vec<u32>,
     pub each: Vec<u32>,
     pub words: Vec<u32>,
-    /// Whether each word is a call of its own.
-    pub word_by_word: bool,
+    /// Words of a call; a round is one call where it has no more.
+    pub per_call: usize,
     /// At the end.
     pub status: u32,
 }
@@ -31,7 +31,7 @@ pub fn words_of(commands: &[Command]) -> Vec<u32> {
 impl Work {
     fn new(name: &str, unit: &'static str, count: usize, words: Vec<u32>) -> Self {
         let (name, before, each) = (name.to_string(), Vec::new(), Vec::new());
-        Self { name, unit, count, before, each, words, word_by_word: false, status: 0 }
+        Self { name, unit, count, before, each, words, per_call: usize::MAX, status: 0 }
     }
 
     fn after(self, before: Vec<u32>) -> Self {
@@ -197,13 +197,17 @@ fn upload(name: &str, command: Command) -> Work {
     Work::new(name, "upload", 1, words_of(&[command]))
 }
 
-/// Of 64 held, any is sent again; or the oldest each time, so that all others move.
-fn uploads_again(which: &str, numbers: Vec<u32>) -> Work {
+/// Of 64 held, any is sent again; or the oldest each time, so that all others move. In one call, or a call for each.
+fn uploads_again(which: &str, numbers: Vec<u32>, calls: &str) -> Work {
     let sent: Vec<Command> = numbers.iter().map(|&number| texture(number, 64, 64)).collect();
     let all: Vec<Command> = (0..64).map(|number| texture(number, 64, 64)).collect();
-    Work::new(&format!("17, 64 by 64, again, {which} of 64 held"), "upload", sent.len(), words_of(&sent))
-        .after(words_of(&all))
+    let (name, words) = (format!("17, 64 by 64, again, {which} of 64 held, {calls}"), words_of(&sent));
+    let per_call = if calls == ONE_CALL { words.len() } else { words.len() / sent.len() };
+    Work { per_call, ..Work::new(&name, "upload", sent.len(), words).after(words_of(&all)) }
 }
+
+const ONE_CALL: &str = "in one call";
+const A_CALL_EACH: &str = "a call each";
 
 fn any_of_64() -> Vec<u32> {
     let mut random = Random::named("again", 1, 0);
@@ -229,7 +233,7 @@ fn single_words(held: u32) -> Work {
     let uploads: Vec<Command> =
         (0..held).flat_map(|number| [texture(number, 2, 2), model(number, 1)]).collect();
     let name = format!("a call of one word, {held} textures and {held} models held");
-    Work { name, unit: "call", word_by_word: true, ..payload(1_000).after(words_of(&uploads)) }
+    Work { name, unit: "call", per_call: 1, ..payload(1_000).after(words_of(&uploads)) }
 }
 
 fn clear(name: &str, flags: u32) -> Work {
@@ -263,8 +267,10 @@ pub fn all(scenes: &str) -> Result<Vec<Work>, String> {
     works.push(model_draw(500));
     works.push(upload("17, 256 by 256", texture(1, 256, 256)));
     works.push(upload("17, 1024 by 1024", texture(1, 1024, 1024)));
-    works.push(uploads_again("any", any_of_64()));
-    works.push(uploads_again("the oldest", (0..64).collect()));
+    for calls in [ONE_CALL, A_CALL_EACH] {
+        works.push(uploads_again("any", any_of_64(), calls));
+        works.push(uploads_again("the oldest", (0..64).collect(), calls));
+    }
     works.push(upload("1A, 18,724 triangles", model(1, 18_724)));
     works.extend(frames(scenes)?);
     works.extend([payload(524_292), single_words(0), single_words(64)]);
