@@ -17,6 +17,9 @@
  *   - from a reset answered 0 on, each feed gets the state that the call before it gave back, and the memory
  *     as that call left it. (A host may change either: every call still has an answer, and does to that
  *     memory what the rules say. But then it is not drawing what its words say.)
+ *
+ * Words may be cut into calls anywhere. A call costs about a microsecond, so that a host sends what it has in one;
+ * textures that are sent again, one after the other and in their old size, cost least so: the others move once.
  */
 #ifndef VPU_H
 #define VPU_H
