@@ -12,7 +12,7 @@ use Rattle.state.specs.declared.State.{State}
 use Rattle.execute.specs.Control.{executed}
 use Rattle.execute.specs.Kept.{Machine, Shelf, machine, asBox, Formed, shelf}
 use Rattle.execute.proofs.Formed.{execute-idle}
-use Rattle.vpu.specs.Ahead.{ahead}
+use Rattle.ahead.specs.Ahead.{ahead}
 use Rattle.vpu.specs.Framing.{run}
 use Rattle.vpu.specs.Frames.{Sound}
 use Rattle.vpu.proofs.Laws.{Runs, command-formed, executed-idle}

@@ -1,5 +1,4 @@
 pub mod Words
-pub mod Left
 pub mod Laws
 pub mod SameRun
 pub mod Changed

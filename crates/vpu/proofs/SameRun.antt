@@ -35,9 +35,9 @@ use Rattle.execute.specs.Control.{execute, executed}
 use Rattle.execute.specs.Kept.{Machine, Shelf, shelf, Formed, box, asBox, roomOn, putOn}
 use Rattle.execute.proofs.Laws.{texture-done}
 use Rattle.execute.proofs.Formed.{Sound}
-use Rattle.vpu.specs.Ahead.{sentArea, sentLength, replaces, sentAgain, leftOf, usedIn, leftIn, ahead}
+use Rattle.ahead.specs.Ahead.{sentArea, sentLength, replaces, sentAgain, leftOf, usedIn, leftIn, ahead}
 use Rattle.vpu.specs.Framing.{word, header, gather, wordOn, run}
-use Rattle.vpu.proofs.Left.{left-keeps}
+use Rattle.ahead.proofs.Left.{left-keeps}
 
 -- ---- a whole command in the words
 -- a machine with a command begun: its opcode, the words that it wants still, the command area, and how many words of that are its payload's

@@ -1,4 +1,3 @@
 pub mod Framing
 pub mod Frames
-pub mod Ahead
 pub mod Calls

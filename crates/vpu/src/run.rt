@@ -86,7 +86,7 @@ fn changed(
     command: &[u32],
     textures: &mut [u32],
     models: &mut [u32],
-    ahead: &[u32],
+    rest: &[u32],
 ) -> State
     requires { ⌜ length (now plane) ≡ planeBytes ⌝ }
     requires { ⌜ length (now depth) ≡ pixels ⌝ }
@@ -95,8 +95,8 @@ fn changed(
     requires { ⌜ length (now command) ≡ mostPayload ⌝ }
     requires { ⌜ Formed kind.Texture (state .textures) (length (now textures)) ⌝ }
     requires { ⌜ Formed kind.Model (state .models) (length (now models)) ⌝ }
-    ensures { λ r. ⌜ run asBox (machine r (now (plane .exit)) (now (depth .exit)) (now («depth_f32» .exit)) (now (command .entry)) (now (textures .exit)) (now (models .exit))) (now (ahead .entry))
-        ≡ run asBox (executed asBox (machine state (now (plane .entry)) (now (depth .entry)) (now («depth_f32» .entry)) (now (command .entry)) (now (textures .entry)) (now (models .entry)))) (now (ahead .entry)) ⌝ }
+    ensures { λ r. ⌜ run asBox (machine r (now (plane .exit)) (now (depth .exit)) (now («depth_f32» .exit)) (now (command .entry)) (now (textures .exit)) (now (models .exit))) (now (rest .entry))
+        ≡ run asBox (executed asBox (machine state (now (plane .entry)) (now (depth .entry)) (now («depth_f32» .entry)) (now (command .entry)) (now (textures .entry)) (now (models .entry)))) (now (rest .entry)) ⌝ }
     ensures { λ r. ⌜ Sound r (length (now (plane .exit))) (length (now (depth .exit))) (length (now («depth_f32» .exit))) (length (now (command .entry))) (length (now (textures .exit))) (length (now (models .exit))) ⌝ }
 {
     let op = state.opcode;
@@ -105,7 +105,7 @@ fn changed(
         return s;
     }
     let slots = s.textures;
-    let left = crate::ahead::look_ahead(slots, textures, ahead);
+    let left = ahead::look_ahead(slots, textures, rest);
     let mut r = s;
     r.textures = left;
     r

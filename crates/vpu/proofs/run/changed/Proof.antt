@@ -60,7 +60,7 @@ returns c =
     let x = executed (c .before) in
     let t = start x in
     let kept = x .execute .kept .1 in (
-      changed-run (runs t) (long-textures t) (long-models t) (x .execute .ensures) (kept .0) (kept .1 .0) (kept .1 .1 .0) (t .args .ahead .now),
+      changed-run (runs t) (long-textures t) (long-models t) (x .execute .ensures) (kept .0) (kept .1 .0) (kept .1 .1 .0) (t .args .rest .now),
       changed-sound (runs t) (long-textures t) (long-models t) (x .execute .ensures) (kept .0) (kept .1 .0) (kept .1 .1 .0),
     )
 
@@ -92,8 +92,8 @@ returns-2 c =
     let x = executed (l .before .before .before .before) in
     let t = start x in
     let kept = x .execute .kept .1 in (
-      ahead-run (runs t) (long-textures t) (long-models t) (x .execute .ensures) (kept .0) (kept .1 .0) (kept .1 .1 .0) (t .args .ahead .now) (long-after x) (l .look-ahead .ensures),
-      ahead-sound (runs t) (long-textures t) (long-models t) (x .execute .ensures) (kept .0) (kept .1 .0) (kept .1 .1 .0) (t .args .ahead .now) (long-after x) (l .look-ahead .ensures) (l .look-ahead .kept .1 .0),
+      ahead-run (runs t) (long-textures t) (long-models t) (x .execute .ensures) (kept .0) (kept .1 .0) (kept .1 .1 .0) (t .args .rest .now) (long-after x) (l .look-ahead .ensures),
+      ahead-sound (runs t) (long-textures t) (long-models t) (x .execute .ensures) (kept .0) (kept .1 .0) (kept .1 .1 .0) (t .args .rest .now) (long-after x) (l .look-ahead .ensures) (l .look-ahead .kept .1 .0),
     )
 
 pub changed-spec : {M : Type 1} → statement M

@@ -8,9 +8,9 @@ use Rattle.payload.specs.Words.{wordAt}
 use Rattle.store.specs.Slots.{slotFor}
 use Rattle.store.specs.declared.Slot.{Slot}
 use Rattle.store.specs.declared.Found.the-variants.{At}
-use Rattle.vpu.proofs.Left.{again-short, again-none, again-wide, again-high, again-large, again-cut, again-whole}
-use Rattle.vpu.proofs.ahead.again.Statement.{statement}
-use Rattle.vpu.proofs.ahead.again.Tie as tie
+use Rattle.ahead.proofs.Left.{again-short, again-none, again-wide, again-high, again-large, again-cut, again-whole}
+use Rattle.ahead.proofs.again.Statement.{statement}
+use Rattle.ahead.proofs.again.Tie as tie
 
 -- the places that the answers look at
 abbrev long : tie.After-find → tie.Else1

@@ -18,7 +18,7 @@ use Rattle.store.proofs.Blank.{spread-blanked, ok-spread}
 use Rattle.store.proofs.Held.{ok-formed}
 use Rattle.store.proofs.Packed.{PackedNow, packed-now}
 use Rattle.execute.specs.Kept.{shelf}
-use Rattle.vpu.specs.Ahead.{sentArea, sentLength, replaces, sentAgain, leftOf, ahead}
+use Rattle.ahead.specs.Ahead.{sentArea, sentLength, replaces, sentAgain, leftOf, ahead}
 
 third : (a b c d : Bool) → (a && (b && (c && d))) ≡ true → c ≡ true
 third a b c d e = and-eq-true-iff c d .0 (and-eq-true-iff b (c && d) .0 (and-eq-true-iff a (b && (c && d)) .0 e .1) .1) .0

@@ -8,9 +8,9 @@ use lib.ListN.{length}
 use Rattle.store.specs.Uploads.{total}
 use Rattle.store.specs.Slots.{told}
 use Rattle.store.specs.declared.Kind.the-variants.{Texture}
-use Rattle.vpu.proofs.Left.{used-fits, ahead-none, ahead-spread, ahead-some}
-use Rattle.vpu.proofs.ahead.look_ahead.Statement.{statement}
-use Rattle.vpu.proofs.ahead.look_ahead.Tie as tie
+use Rattle.ahead.proofs.Left.{used-fits, ahead-none, ahead-spread, ahead-some}
+use Rattle.ahead.proofs.look_ahead.Statement.{statement}
+use Rattle.ahead.proofs.look_ahead.Tie as tie
 
 long : (c : tie.Start) → length (c .args .slots) ≡ 64
 long c = search needs

@@ -7,10 +7,10 @@ use borrow.Author.Needs.{needs}
 use borrow.Author.Tests.{not-true, not-false}
 use lib.ListN.{length, drop, length-drop}
 use lib.Seq.{take-all}
-use Rattle.vpu.specs.Ahead.{sentAgain}
-use Rattle.vpu.proofs.Left.{Left, left-stops, left-ends, turn-long, turn-fits, left-turn}
-use Rattle.vpu.proofs.ahead.left_after.Statement.{statement}
-use Rattle.vpu.proofs.ahead.left_after.Tie as tie
+use Rattle.ahead.specs.Ahead.{sentAgain}
+use Rattle.ahead.proofs.Left.{Left, left-stops, left-ends, turn-long, turn-fits, left-turn}
+use Rattle.ahead.proofs.left_after.Statement.{statement}
+use Rattle.ahead.proofs.left_after.Tie as tie
 
 abbrev Inv-loop : tie.InvT-loop
 Inv-loop spare words left₀ k₀ i₀ left k i = Left left₀ spare words left k i

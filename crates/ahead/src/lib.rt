@@ -10,7 +10,7 @@ ghost use lib.ListN.{length};
 ghost use Rattle.store.specs.Uploads.{mostWords};
 ghost use Rattle.store.specs.declared.Kind.the-variants as kind;
 ghost use Rattle.execute.specs.Kept.{Formed, shelf};
-ghost use Rattle.vpu.specs.Ahead.{sentAgain, leftOf, ahead};
+ghost use Rattle.ahead.specs.Ahead.{sentAgain, leftOf, ahead};
 
 // Do the words begin with a whole command that sends a held texture again in its old size, with
 // room for it? `spare` words are free.
