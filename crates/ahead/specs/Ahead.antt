@@ -1,4 +1,4 @@
--- Textures that the words ahead send again, each in its old size: they go at once, so that the others close up once and not for each. `vpu/proofs/SameRun.antt` shows that the run is the same. Definitions only.
+-- Textures that the words ahead send again, each in its old size: they go at once, so that the others close up once and not for each. No sentence of document 01, and nothing that a call's contract speaks of: `vpu/proofs/SameRun.antt` shows that the run is the same, whatever is said here. Definitions only.
 use Prim.Native.Nat.{ℕ, zero, suc, _+_, _-_}
 use mathlib.Core.Bool.{Bool, true, false, cond, _&&_}
 use mathlib.Core.List.{List}

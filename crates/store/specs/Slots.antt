@@ -113,7 +113,7 @@ pub record Uploaded (k : Kind) (ss : List Slot) (store : List ℕ) (u : Whole) (
   pub slots : r .slots ≡ cond (isFits (r .room)) (slotsAfter (card u) (told k ss)) ss
   pub words : after ≡ cond (isFits (r .room)) (wordsAfter (u .number) (u .words) (view k ss store) store) store
 
--- ---- closing up more than one at once
+-- ---- closing up more than one at once: no rule of document 01, but a way to the same words (crate `ahead`)
 -- held areas that lie in order from a word on and end within a size, with free words between them or none
 abbrev pub spreadOk : Kind → ℕ → ℕ → List Slot → Bool
 spreadOk k size at [] = leb at size
