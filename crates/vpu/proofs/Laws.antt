@@ -26,7 +26,6 @@ use Rattle.execute.specs.Paints.{picture, paintsOn}
 use Rattle.execute.specs.Commands.{paintedBy, sets}
 use Rattle.execute.specs.Control.{Keep, Seen, execute, executed}
 use Rattle.execute.specs.Kept.{Machine, machine, asBox, Formed, shelf, lookOn}
-use Rattle.execute.proofs.Laws.{rest-is}
 use Rattle.execute.proofs.Formed.{Stands, execute-stands}
 use Rattle.execute.proofs.Executed.{paint-executed}
 use Rattle.vpu.specs.declared.frame.Frame.{Frame}
@@ -237,21 +236,34 @@ module _ {ws : List ℕ} {m₀ : Machine} {s : State} {f : Frame} {P : List ℕ}
           of-models = h .of-models;
         })
 
-    -- a command that was run, to the same end for the words after it, which are a slice
     pub held-command : {t s″ : State} {f″ : Frame} {P″ : List ℕ} {D″ : List ℤ} {F″ : List Float} {T″ M″ : List ℕ}
         → readyOf f′ ≡ true → t ≡ withFrame s f′
-        → run asBox (machine s″ P″ D″ F″ C′ T″ M″) (take (length ws - (k + 1)) (drop (k + 1) ws)) ≡ run asBox (executed asBox (machine t P D F C′ T M)) (take (length ws - (k + 1)) (drop (k + 1) ws))
-        → Sound s″ (length P″) (length D″) (length F″) (length C′) (length T″) (length M″)
-        → length T″ ≡ length T → length M″ ≡ length M → f″ ≡ frameOf s″
+        → machine s″ P″ D″ F″ C′ T″ M″ ≡ executed asBox (machine t P D F C′ T M)
+        → length P″ ≡ length P → length D″ ≡ length D → length F″ ≡ length F → length T″ ≡ length T → length M″ ≡ length M
+        → length (t .textures) ≡ 64 → length (t .models) ≡ 64 → f″ ≡ frameOf s″
         → Held ws m₀ s″ f″ P″ D″ F″ C′ T″ M″ (k + 1)
-    held-command r e x h t m y =
+    held-command {t = t′} r e x p d g t m a b y =
+        let h = held .sound in
+        let runs = held-runs {t = t′} e in
+        let few : t′ .gathered ≤ mostPayload = omega (arith, runs .within, runs .of-command) in
+        let formed = command-formed (machine t′ P D F C′ T M) x few
+        (record { textures = record { slots = a; long = refl; formed = runs .of-textures }; models = record { slots = b; long = refl; formed = runs .of-models } }) in
+        let z = executed-idle _ _ _ _ _ _ _ _ x in
         rw y
         (record {
           within = omega arith;
-          sound = h;
+          sound = record {
+            of-plane = p ∙ h .of-plane;
+            of-depth = d ∙ h .of-depth;
+            of-floats = g ∙ h .of-floats;
+            of-command = same-area ∙ h .of-command;
+            begun = z;
+            of-textures = formed .0;
+            of-models = formed .1;
+          };
           same-textures = t ∙ held .same-textures;
           same-models = m ∙ held .same-models;
-          rest = rw (rest-is ws (k + 1)) at x ∙ rw e (rw (turned true r) at (run-turn asBox ws k _ _ is-more (held .rest)));
+          rest = rw x (rw e (rw (turned true r) at (run-turn asBox ws k _ _ is-more (held .rest))));
         })
 
     -- of a command that leaves settings and stores alone

@@ -11,9 +11,8 @@ ghost use Rattle.screen.specs.Plane.{planeBytes};
 ghost use Rattle.screen.specs.Draw.{pixels};
 ghost use Rattle.store.specs.Slots.{slotsOk};
 ghost use Rattle.store.specs.declared.Kind.the-variants as kind;
-ghost use Rattle.state.specs.State.{mostPayload};
 ghost use Rattle.execute.specs.Control.{executed};
-ghost use Rattle.execute.specs.Kept.{machine, asBox, Formed};
+ghost use Rattle.execute.specs.Kept.{machine, asBox};
 ghost use Rattle.vpu.specs.Framing.{run};
 ghost use Rattle.vpu.specs.Frames.{withFrame, changes, Sound};
 
@@ -76,41 +75,6 @@ fn painted(
     }
 }
 
-// A command that can, before the words ahead: after an upload of a texture, those that they send
-// again go at once.
-fn changed(
-    state: State,
-    plane: &mut [u8],
-    depth: &mut [i32],
-    depth_f32: &mut [f32],
-    command: &[u32],
-    textures: &mut [u32],
-    models: &mut [u32],
-    rest: &[u32],
-) -> State
-    requires { ⌜ length (now plane) ≡ planeBytes ⌝ }
-    requires { ⌜ length (now depth) ≡ pixels ⌝ }
-    requires { ⌜ length (now «depth_f32») ≡ pixels ⌝ }
-    requires { ⌜ state .gathered ≤ length (now command) ⌝ }
-    requires { ⌜ length (now command) ≡ mostPayload ⌝ }
-    requires { ⌜ Formed kind.Texture (state .textures) (length (now textures)) ⌝ }
-    requires { ⌜ Formed kind.Model (state .models) (length (now models)) ⌝ }
-    ensures { λ r. ⌜ run asBox (machine r (now (plane .exit)) (now (depth .exit)) (now («depth_f32» .exit)) (now (command .entry)) (now (textures .exit)) (now (models .exit))) (now (rest .entry))
-        ≡ run asBox (executed asBox (machine state (now (plane .entry)) (now (depth .entry)) (now («depth_f32» .entry)) (now (command .entry)) (now (textures .entry)) (now (models .entry)))) (now (rest .entry)) ⌝ }
-    ensures { λ r. ⌜ Sound r (length (now (plane .exit))) (length (now (depth .exit))) (length (now («depth_f32» .exit))) (length (now (command .entry))) (length (now (textures .exit))) (length (now (models .exit))) ⌝ }
-{
-    let op = state.opcode;
-    let s = execute::execute(state, plane, depth, depth_f32, command, textures, models);
-    if op != 0x17 {
-        return s;
-    }
-    let slots = s.textures;
-    let left = ahead::look_ahead(slots, textures, rest);
-    let mut r = s;
-    r.textures = left;
-    r
-}
-
 pub fn run_words(
     state: State,
     words: &[u32],
@@ -134,7 +98,7 @@ pub fn run_words(
         f = frame::take_word(f, w, command);
         if frame::ready(f) {
             if changes(f.opcode) {
-                s = changed(
+                s = execute::execute(
                     frame::with_frame(s, f),
                     plane,
                     depth,
@@ -142,7 +106,6 @@ pub fn run_words(
                     command,
                     textures,
                     models,
-                    &words[k..],
                 );
                 f = frame::frame_of(s);
             } else {

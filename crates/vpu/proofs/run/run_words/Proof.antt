@@ -1,9 +1,9 @@
 -- The loop's invariant: what is left of the words, run on the machine at hand, is the whole run. A turn is a word, and a command where one is complete. Assumes nothing.
 use Prim.Native.Nat.{_-_}
-use mathlib.Core.Path.{refl, sym, _∙_}
+use mathlib.Core.Path.{_≡_, refl, sym, _∙_}
 use native.Mathlib.Omega.{arith}
 use borrow.Author.Needs.{needs}
-use lib.ListN.{length}
+use lib.ListN.{length, length-map}
 use Rattle.execute.specs.Kept.{machine}
 use Rattle.vpu.proofs.Laws.{Held, held-start, held-takes, held-word, held-runs, held-command, held-painted, held-fits, held-gathered, held-end}
 use Rattle.vpu.proofs.run.run_words.Statement.{statement}
@@ -24,14 +24,21 @@ took c = c .before .before .before
 abbrev turn : tie.After-take-word Inv-loop μ-loop → tie.In-loop Inv-loop μ-loop
 turn c = c .before .before .before
 
-abbrev framed : tie.After-changed-arg6 Inv-loop μ-loop → tie.After-with-frame Inv-loop μ-loop
+abbrev framed : tie.After-execute-arg6 Inv-loop μ-loop → tie.After-with-frame Inv-loop μ-loop
 framed c = c .before .before .before .before .before .before
 
 abbrev chosen : tie.After-changes Inv-loop μ-loop → tie.After-ready Inv-loop μ-loop
 chosen c = c .before .before
 
-abbrev changed : tie.After-frame-of2 Inv-loop μ-loop → tie.After-changed Inv-loop μ-loop
-changed c = c .before .before .before .before .before .before .before .before .before .before
+abbrev executed : tie.After-frame-of2 Inv-loop μ-loop → tie.After-execute Inv-loop μ-loop
+executed c = c .before .before .before .before .before .before .before .before .before .before
+
+-- a state's arrays of slots have their length by their type
+long-textures : (c : tie.After-with-frame Inv-loop μ-loop) → length (c .with-frame .result .textures) ≡ 64
+long-textures c = simp length-map at (c .with-frame .ok .1 .1 .1 .0 .1 .0 .1)
+
+long-models : (c : tie.After-with-frame Inv-loop μ-loop) → length (c .with-frame .result .models) ≡ 64
+long-models c = simp length-map at (c .with-frame .ok .1 .1 .1 .1 .0 .1 .0 .1)
 
 frame-of-requires : tie.Need-frame-of-requires Inv-loop μ-loop
 frame-of-requires c κs = tt
@@ -59,21 +66,9 @@ ready-requires c κs = tt
 with-frame-requires : tie.Need-with-frame-requires Inv-loop μ-loop
 with-frame-requires c κs = tt
 
-mul-changed : tie.Need-mul-changed Inv-loop μ-loop
-mul-changed c = omega (arith, turn (took (chosen (framed c .before .before))))
-
-sub-changed : tie.Need-sub-changed Inv-loop μ-loop
-sub-changed c = omega (arith, turn (took (chosen (framed c .before .before))))
-
-part-changed-start : tie.Need-part-changed-start Inv-loop μ-loop
-part-changed-start c = omega arith
-
-part-changed-end : tie.Need-part-changed-end Inv-loop μ-loop
-part-changed-end c = omega arith
-
-changed-requires : tie.Need-changed-requires Inv-loop μ-loop
-changed-requires c κs =
-    let f = framed (c .before) in
+execute-requires : tie.Need-execute-requires Inv-loop μ-loop
+execute-requires c κs =
+    let f = framed c in
     let t = took (chosen (f .before .before)) in
     let i = turn t in
     let r = held-runs (i .before .loop .inv) (i .loop-test .taken) refl (t .take-word .ensures .0) (t .take-word .ensures .1) (f .with-frame .ensures) in
@@ -86,19 +81,19 @@ frame-of-requires-2 : tie.Need-frame-of-requires-2 Inv-loop μ-loop
 frame-of-requires-2 c κs = tt
 
 loop-less : tie.Need-loop-less Inv-loop μ-loop
-loop-less c = omega (arith, turn (took (chosen (framed (changed c .before .before) .before .before))))
+loop-less c = omega (arith, turn (took (chosen (framed (executed c .before) .before .before))))
 
 loop-again : tie.Need-loop-again Inv-loop μ-loop
 loop-again c =
-    let x = changed c in
-    let f = framed (x .before .before) in
+    let x = executed c in
+    let f = framed (x .before) in
     let g = f .before .before in
     let t = took (chosen g) in
     let i = turn t in
-    let kept = x .changed .kept .1 in
+    let kept = x .execute .kept .1 in
     held-command (i .before .loop .inv) (i .loop-test .taken) refl (t .take-word .ensures .0) (t .take-word .ensures .1)
-    (sym (chosen g .ready .ensures) ∙ g .before .if1 .taken) (f .with-frame .ensures) (x .changed .ensures .0) (x .changed .ensures .1)
-    (kept .1 .1 .1 .1 .0) (kept .1 .1 .1 .1 .1 .0) (c .frame-of2 .ensures)
+    (sym (chosen g .ready .ensures) ∙ g .before .if1 .taken) (f .with-frame .ensures) (x .execute .ensures)
+    (kept .0) (kept .1 .0) (kept .1 .1 .0) (kept .1 .1 .1 .1 .0) (kept .1 .1 .1 .1 .1 .0) (long-textures f) (long-models f) (c .frame-of2 .ensures)
 
 -- the turn, where the command paints and the state stays
 abbrev kept-state : tie.After-painted-arg6 Inv-loop μ-loop → tie.Else2 Inv-loop μ-loop
@@ -225,11 +220,7 @@ run-words-spec =
     ready-requires
     changes-requires
     with-frame-requires
-    mul-changed
-    sub-changed
-    part-changed-start
-    part-changed-end
-    changed-requires
+    execute-requires
     frame-of-requires-2
     loop-less
     loop-again
