@@ -3,7 +3,7 @@ use Prim.Native.Nat.{ℕ, zero, suc, _+_, _-_, _≤_, max}
 use mathlib.Core.Path.{_≡_, refl, sym, ap, _∙_}
 use mathlib.Core.Bool.{Bool, true, false, cond, not, _&&_, true≢false, false≢true}
 use mathlib.Core.Option.{some, none}
-use mathlib.Core.List.{List, [], _∷_, _++_, append-assoc}
+use mathlib.Core.List.{List, [], _∷_, _++_, append-assoc, append-nil}
 use native.Mathlib.Omega.{arith}
 use native.Mathlib.Nat.{add-zero, zero-add, sub-zero, suc-sub-suc}
 use lib.ListN.{length, take, drop, replicate, length-append, length-replicate, length-drop, take-append-drop}
@@ -11,7 +11,7 @@ use lib.Seq.{drop-drop, take-append-seam, drop-append-seam, drop-at, length-take
 use lib.Dec.{eqb, leb}
 use borrow.Author.Tests.{eqb-true, eq-eqb, leb-true, le-leb, not-true}
 use Rattle.store.proofs.Bools.{and-left, and-right, cond-both}
-use Rattle.store.proofs.Laws.{Apart, All, Space, all-stored, apart-stored, total-stored, length-stored, length-wordsOf, wordsOf-stored, cards-stored}
+use Rattle.store.proofs.Laws.{Apart, All, Space, all-stored, apart-stored, total-stored, length-stored, length-wordsOf, wordsOf-append, cards-stored}
 use Rattle.store.specs.Uploads.{Whole, Card, card, cards, without, find, isSome, holds, wordsOf, total, stored}
 use Rattle.store.specs.Slots.{areaOf, sidesOk, noSlot, place, slotsOf, cardAt, told, view, wordsAfter, slotsAfter, slotsOk, heldOk, zeroSlot, fresh, unused}
 use Rattle.store.specs.declared.Slot.{Slot}
@@ -239,7 +239,7 @@ module _ {k : Kind} {slots : List Slot} {store : List ℕ} {us : List Whole} (u 
   after = wordsAfter (u .number) (u .words) us store
 
   front-is : wordsOf (without (u .number) us) ++ u .words ≡ wordsOf (stored u us)
-  front-is = sym (wordsOf-stored u us)
+  front-is = sym (wordsOf-append (without (u .number) us) (u ∷ []) ∙ ap (λ (l : List ℕ). wordsOf (without (u .number) us) ++ l) (append-nil (u .words)))
 
   front-long : length (wordsOf (without (u .number) us) ++ u .words) ≡ total (cards (stored u us))
   front-long = ap length front-is ∙ length-wordsOf (stored u us)

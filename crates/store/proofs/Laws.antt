@@ -1,13 +1,13 @@
 -- Laws of `specs/Uploads.antt`. Assumes nothing.
 use Prim.Native.Nat.{ℕ, suc, _+_, _≤_, _<_}
 use mathlib.Core.Path.{_≡_, refl, sym, ap, _∙_}
-use mathlib.Core.Bool.{Bool, true, false, cond, not, _&&_, _||_, true≢false, false≢true}
-use mathlib.Core.Option.{Option, some, Option·some-injective, Option·some-ne-none}
-use mathlib.Core.List.{List, [], _∷_, _++_, append-assoc, append-nil}
+use mathlib.Core.Bool.{Bool, true, false, cond, not, _&&_, true≢false, false≢true}
+use mathlib.Core.Option.{Option, some}
+use mathlib.Core.List.{List, [], _∷_, _++_, append-assoc}
 use native.Mathlib.Omega.{arith}
 use lib.ListN.{length, length-append}
 use lib.Dec.{eqb, leb, ltb}
-use borrow.Author.Tests.{eqb-true, eqb-false, ne-eqb, leb-false, ltb-false, lt-leb, le-ltb}
+use borrow.Author.Tests.{eqb-true, eqb-false, ne-eqb, leb-false, ltb-false}
 use Rattle.store.specs.Uploads.{Upload, Whole, Card, card, cards, without, find, isSome, holds, wordsOf, total, stored, live, counted, room}
 use Rattle.store.specs.Slots.{isFits}
 use Rattle.store.specs.declared.Room.{Room}
@@ -87,7 +87,7 @@ module _ {W : Type 0} where
       go false ih = omega arith
 
   -- one goes at least, where the number is held
-  pub length-without-held : (n : ℕ) (us : List (Upload W)) → holds n us ≡ true → length (without n us) < length us
+  length-without-held : (n : ℕ) (us : List (Upload W)) → holds n us ≡ true → length (without n us) < length us
   length-without-held n [] h = absurd (false≢true h)
   length-without-held n (u ∷ us) h = go (eqb (u .number) n) h (length-without-held n us)
     where
@@ -95,110 +95,6 @@ module _ {W : Type 0} where
           → length (cond b (without n us) (u ∷ without n us)) < suc (length us)
       go true h ih = omega (arith, length-without n us)
       go false h ih = omega (arith, ih h)
-
-  -- ---- what is held among those left, and among two lists
-  pub holds-without : (n m : ℕ) (us : List (Upload W)) → holds n us ≡ false → holds n (without m us) ≡ false
-  holds-without n m [] h = refl
-  holds-without n m (u ∷ us) h = go (eqb (u .number) n) (eqb (u .number) m) refl h (holds-without n m us)
-    where
-      go : (b c : Bool) → eqb (u .number) n ≡ b → isSome (cond b (some u) (find n us)) ≡ false → (holds n us ≡ false → holds n (without m us) ≡ false)
-          → holds n (cond c (without m us) (u ∷ without m us)) ≡ false
-      go true c e p ih = absurd (true≢false p)
-      go false true e p ih = ih p
-      go false false e p ih = rw e (ih p)
-
-  pub holds-gone : (n : ℕ) (us : List (Upload W)) → holds n (without n us) ≡ false
-  holds-gone n [] = refl
-  holds-gone n (u ∷ us) = go (eqb (u .number) n) refl (holds-gone n us)
-    where
-      go : (b : Bool) → eqb (u .number) n ≡ b → holds n (without n us) ≡ false → holds n (cond b (without n us) (u ∷ without n us)) ≡ false
-      go true e ih = ih
-      go false e ih = rw e ih
-
-  pub holds-append : (n : ℕ) (us vs : List (Upload W)) → holds n (us ++ vs) ≡ (holds n us || holds n vs)
-  holds-append n [] vs = refl
-  holds-append n (u ∷ us) vs = go (eqb (u .number) n) (holds-append n us vs)
-    where
-      go : (b : Bool) → holds n (us ++ vs) ≡ (holds n us || holds n vs)
-          → isSome (cond b (some u) (find n (us ++ vs))) ≡ (isSome (cond b (some u) (find n us)) || holds n vs)
-      go true ih = refl
-      go false ih = ih
-
-  pub holds-neither : (n : ℕ) (us vs : List (Upload W)) → holds n us ≡ false → holds n vs ≡ false → holds n (us ++ vs) ≡ false
-  holds-neither n us vs a b = holds-append n us vs ∙ rw (a, b)
-
-  pub holds-not-left : (n : ℕ) (us vs : List (Upload W)) → holds n (us ++ vs) ≡ false → holds n us ≡ false
-  holds-not-left n us vs h = go (holds n us) (sym (holds-append n us vs) ∙ h)
-    where
-      go : (b : Bool) → (b || holds n vs) ≡ false → b ≡ false
-      go true e = e
-      go false e = refl
-
-  pub holds-not-right : (n : ℕ) (us vs : List (Upload W)) → holds n (us ++ vs) ≡ false → holds n vs ≡ false
-  holds-not-right n us vs h = go (holds n us) (sym (holds-append n us vs) ∙ h)
-    where
-      go : (b : Bool) → (b || holds n vs) ≡ false → holds n vs ≡ false
-      go true e = absurd (true≢false e)
-      go false e = e
-
-  -- ---- `All` and `Apart` of those left, and of two lists
-  pub all-without : (P : Upload W → Type 0) (n : ℕ) (us : List (Upload W)) → All P us → All P (without n us)
-  all-without P n [] a = tt
-  all-without P n (u ∷ us) a = go (eqb (u .number) n) (all-without P n us (a .1))
-    where
-      go : (b : Bool) → All P (without n us) → All P (cond b (without n us) (u ∷ without n us))
-      go true ih = ih
-      go false ih = (a .0, ih)
-
-  pub all-append : (P : Upload W → Type 0) (us vs : List (Upload W)) → All P us → All P vs → All P (us ++ vs)
-  all-append P [] vs a b = b
-  all-append P (u ∷ us) vs a b = (a .0, all-append P us vs (a .1) b)
-
-  pub all-left : (P : Upload W → Type 0) (us vs : List (Upload W)) → All P (us ++ vs) → All P us
-  all-left P [] vs a = tt
-  all-left P (u ∷ us) vs a = (a .0, all-left P us vs (a .1))
-
-  pub all-right : (P : Upload W → Type 0) (us vs : List (Upload W)) → All P (us ++ vs) → All P vs
-  all-right P [] vs a = a
-  all-right P (u ∷ us) vs a = all-right P us vs (a .1)
-
-  pub apart-left : (us vs : List (Upload W)) → Apart (us ++ vs) → Apart us
-  apart-left [] vs d = tt
-  apart-left (u ∷ us) vs d = (holds-not-left (u .number) us vs (d .0), apart-left us vs (d .1))
-
-  -- a number is held in one of two lists that stand apart
-  pub apart-append-right : (n : ℕ) (us vs : List (Upload W)) → Apart (us ++ vs) → holds n us ≡ true → holds n vs ≡ false
-  apart-append-right n [] vs d h = absurd (false≢true h)
-  apart-append-right n (u ∷ us) vs d h = go (eqb (u .number) n) refl h (apart-append-right n us vs (d .1))
-    where
-      go : (b : Bool) → eqb (u .number) n ≡ b → isSome (cond b (some u) (find n us)) ≡ true → (holds n us ≡ true → holds n vs ≡ false) → holds n vs ≡ false
-      go true e p ih = rw (← eqb-true (u .number) n e) (holds-not-right (u .number) us vs (d .0))
-      go false e p ih = ih p
-
-  -- taking one out of the first of two lists
-  pub apart-without-left : (n : ℕ) (us vs : List (Upload W)) → Apart (us ++ vs) → Apart (without n us ++ vs)
-  apart-without-left n [] vs d = d
-  apart-without-left n (u ∷ us) vs d = go (eqb (u .number) n) (apart-without-left n us vs (d .1))
-    where
-      go : (b : Bool) → Apart (without n us ++ vs) → Apart (cond b (without n us) (u ∷ without n us) ++ vs)
-      go true ih = ih
-      go false ih = (
-        holds-neither (u .number) (without n us) vs
-            (holds-without (u .number) n us (holds-not-left (u .number) us vs (d .0))) (holds-not-right (u .number) us vs (d .0)),
-        ih,
-      )
-
-  -- ---- an upload under a number that is held in the first of two lists, and under a new one
-  pub without-both : (u : Upload W) (us vs : List (Upload W)) → Apart (us ++ vs) → holds (u .number) us ≡ true
-      → stored u (us ++ vs) ≡ without (u .number) us ++ (vs ++ (u ∷ []))
-  without-both u us vs d h =
-      let n : ℕ = u .number in
-      ap (λ (l : List (Upload W)). l ++ (u ∷ []))
-      (without-append n us vs ∙ ap (λ (l : List (Upload W)). without n us ++ l) (without-none n vs (apart-append-right n us vs d h)))
-      ∙ append-assoc (without n us) vs (u ∷ [])
-
-  pub stored-new : (u : Upload W) (us : List (Upload W)) → holds (u .number) us ≡ false → stored u us ≡ us ++ (u ∷ [])
-  stored-new u us h = ap (λ (l : List (Upload W)). l ++ (u ∷ [])) (without-none (u .number) us h)
 
   -- ---- `All` and `Apart` after an upload
   pub all-stored : (P : Upload W → Type 0) (u : Upload W) (us : List (Upload W)) → P u → All P us → All P (stored u us)
@@ -240,27 +136,6 @@ cards-without n (u ∷ us) = go (eqb (u .number) n) (cards-without n us)
 pub cards-stored : (u : Whole) (us : List Whole) → cards (stored u us) ≡ stored (card u) (cards us)
 cards-stored u us = cards-append (without (u .number) us) (u ∷ []) ∙ ap (λ (l : List Card). l ++ (card u ∷ [])) (cards-without (u .number) us)
 
-pub holds-cards : (n : ℕ) (us : List Whole) → holds n (cards us) ≡ holds n us
-holds-cards n [] = refl
-holds-cards n (u ∷ us) = go (eqb (u .number) n) (holds-cards n us)
-  where
-    go : (b : Bool) → holds n (cards us) ≡ holds n us → isSome (cond b (some (card u)) (find n (cards us))) ≡ isSome (cond b (some u) (find n us))
-    go true ih = refl
-    go false ih = ih
-
-pub apart-cards : (us : List Whole) → Apart (cards us) → Apart us
-apart-cards [] d = tt
-apart-cards (u ∷ us) d = (sym (holds-cards (u .number) us) ∙ d .0, apart-cards us (d .1))
-
--- what is true of each is true of the one that is found
-pub all-found : (P : Card → Type 0) (n : ℕ) (us : List Whole) (v : Whole) → All P (cards us) → find n us ≡ some v → P (card v)
-all-found P n [] v a e = absurd (Option·some-ne-none v (sym e))
-all-found P n (u ∷ us) v a e = go (eqb (u .number) n) e (all-found P n us v (a .1))
-  where
-    go : (b : Bool) → cond b (some u) (find n us) ≡ some v → (find n us ≡ some v → P (card v)) → P (card v)
-    go true p ih = rw (Option·some-injective u v p) at (a .0)
-    go false p ih = ih p
-
 -- ---- sums
 pub total-append : (cs ds : List Card) → total (cs ++ ds) ≡ total cs + total ds
 total-append [] ds = omega arith
@@ -277,20 +152,6 @@ total-without n (c ∷ cs) = go (eqb (c .number) n) (total-without n cs)
 pub total-stored : (c : Card) (cs : List Card) → total (stored c cs) ≡ total (without (c .number) cs) + c .words
 total-stored c cs = omega (arith, total-append (without (c .number) cs) (c ∷ []))
 
--- what goes, and what is left
-pub total-found : (n : ℕ) (us : List Whole) (v : Whole) → Apart (cards us) → find n us ≡ some v → total (cards (without n us)) + length (v .words) ≡ total (cards us)
-total-found n [] v d e = absurd (Option·some-ne-none v (sym e))
-total-found n (u ∷ us) v d e = go (eqb (u .number) n) refl e (total-found n us v (d .1))
-  where
-    go : (b : Bool) → eqb (u .number) n ≡ b → cond b (some u) (find n us) ≡ some v
-        → (find n us ≡ some v → total (cards (without n us)) + length (v .words) ≡ total (cards us))
-        → total (cards (cond b (without n us) (u ∷ without n us))) + length (v .words) ≡ length (u .words) + total (cards us)
-    go true b p ih =
-        let same : u ≡ v = Option·some-injective u v p in
-        let free : holds n us ≡ false = sym (holds-cards n us) ∙ rw (eqb-true (u .number) n b) at (d .0) in
-        omega (arith, ap (λ (l : List Whole). total (cards l)) (without-none n us free), ap (λ (x : Whole). length (x .words)) same)
-    go false b p ih = omega (arith, ih p)
-
 pub wordsOf-append : (us vs : List Whole) → wordsOf (us ++ vs) ≡ wordsOf us ++ wordsOf vs
 wordsOf-append [] vs = refl
 wordsOf-append (u ∷ us) vs = rw (wordsOf-append us vs, append-assoc)
@@ -298,9 +159,6 @@ wordsOf-append (u ∷ us) vs = rw (wordsOf-append us vs, append-assoc)
 pub length-wordsOf : (us : List Whole) → length (wordsOf us) ≡ total (cards us)
 length-wordsOf [] = refl
 length-wordsOf (u ∷ us) = length-append (u .words) (wordsOf us) ∙ ap (λ (n : ℕ). length (u .words) + n) (length-wordsOf us)
-
-pub wordsOf-stored : (u : Whole) (us : List Whole) → wordsOf (stored u us) ≡ wordsOf (without (u .number) us) ++ u .words
-wordsOf-stored u us = wordsOf-append (without (u .number) us) (u ∷ []) ∙ ap (λ (l : List ℕ). wordsOf (without (u .number) us) ++ l) (append-nil (u .words))
 
 -- ---- what the answer "it fits" gives: the new words fit beside the other numbers', and so does the slot
 pub record Space (size : ℕ) (cs : List Card) (n new : ℕ) : Type 0 where
@@ -323,14 +181,3 @@ pub is-fits : (r : Room) → isFits r ≡ true → r ≡ Fits
 is-fits Fits h = refl
 is-fits NoSlot h = absurd (false≢true h)
 is-fits NoWords h = absurd (false≢true h)
-
--- an upload has room under a number that is held, and where a slot is free
-pub held-fits : (size : ℕ) (cs : List Card) (n new : ℕ) → holds n cs ≡ true → total cs + new ≤ size → room size cs n new ≡ Fits
-held-fits size cs n new h l = rw (h, le-ltb size (total cs + new) l)
-
-pub few-fits : (size : ℕ) (cs : List Card) (n new : ℕ) → length cs < 64 → total cs + new ≤ size → room size cs n new ≡ Fits
-few-fits size cs n new h l = rw (lt-leb 64 (length cs) h, le-ltb size (total cs + new) l) (go (not (holds n cs)))
-  where
-    go : (b : Bool) → cond (b && false) NoSlot Fits ≡ Fits
-    go true = refl
-    go false = refl

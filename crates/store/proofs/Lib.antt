@@ -1,7 +1,6 @@
 pub mod Bools
 pub mod Over
 pub mod Laws
-pub mod Blank
 pub mod Walk
 pub mod Mapped
 pub mod Split
@@ -9,6 +8,4 @@ pub mod Marks
 pub mod Held
 pub mod Moved
 pub mod Kept
-pub mod Packed
 pub mod Cases
-pub mod Closing

@@ -2,6 +2,7 @@
 use Prim.Native.Nat.{ℕ, zero, suc, _+_, _-_, _≤_, max}
 use mathlib.Core.Path.{_≡_, refl, sym, ap, _∙_}
 use mathlib.Core.Bool.{Bool, true, false, cond, _&&_}
+use mathlib.Core.Option.{some}
 use mathlib.Core.List.{List, [], _∷_, _++_, append-assoc}
 use native.Mathlib.Omega.{arith}
 use native.Mathlib.Nat.{add-zero, zero-add}
@@ -15,7 +16,7 @@ use Rattle.store.specs.declared.Slot.{Slot}
 use Rattle.store.specs.declared.Kind.{Kind}
 use Rattle.store.specs.declared.Found.{Found}
 use Rattle.store.specs.declared.Found.the-variants.{At, Nothing}
-use Rattle.store.proofs.Laws.{Apart, without-none, all-mid, cards-append, holds-cards, cards-without, total-append, wordsOf-append, length-wordsOf}
+use Rattle.store.proofs.Laws.{Apart, without-none, all-mid, cards-append, cards-without, total-append, wordsOf-append, length-wordsOf}
 use Rattle.store.proofs.Walk.{none-holds}
 use Rattle.store.proofs.Held.{Sized, Rep, ok-rep, view-told}
 
@@ -29,6 +30,14 @@ look-is k n (s ∷ ss) store = go (s .held) (eqb (s .number) n) refl (look-is k 
     go true true e ih = rw e
     go true false e ih = rw e ih
     go false b e ih = ih
+
+holds-cards : (n : ℕ) (us : List Whole) → holds n (cards us) ≡ holds n us
+holds-cards n [] = refl
+holds-cards n (u ∷ us) = go (eqb (u .number) n) (holds-cards n us)
+  where
+    go : (b : Bool) → holds n (cards us) ≡ holds n us → isSome (cond b (some (card u)) (find n (cards us))) ≡ isSome (cond b (some u) (find n us))
+    go true ih = refl
+    go false ih = ih
 
 -- ---- the old upload under n: those before it and those after it, which are what is left without it; and the slot that is found
 record Old (n at : ℕ) (us : List Whole) (s : Slot) : Type 0 where

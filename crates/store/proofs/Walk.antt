@@ -1,20 +1,20 @@
 -- A loop that walks the slots: what a definition of `specs/Slots.antt` says of the slots from index i on, by the slot at i and those from i + 1 on.
--- `closed` builds its slots as it goes, so its turns speak of the slots up to i. Assumes nothing.
+-- `others` builds its slots as it goes, so its turns speak of the slots up to i. Assumes nothing.
 use Prim.Native.Nat.{ℕ, suc, _+_, _-_, _≤_, _<_}
 use mathlib.Core.Path.{_≡_, refl, sym, ap, _∙_}
-use mathlib.Core.Bool.{Bool, true, false, cond, _&&_}
+use mathlib.Core.Bool.{Bool, true, false, cond, not, _&&_}
 use mathlib.Core.List.{List, [], _∷_, _++_, append-assoc, append-nil}
 use native.Mathlib.Omega.{arith}
 use native.Mathlib.Numerals.{add-one}
 use native.Mathlib.Nat.{add-zero, zero-add, mul-le-mul}
 use lib.ListN.{length, take, drop, getD, set, replicate, drop-of-length-le, length-append, length-replicate, take-append-drop}
-use lib.Seq.{drop-cons, take-all, take-suc, length-take-le, set-at}
+use lib.Seq.{drop-cons, take-suc, length-take-le, set-at}
 use lib.Dec.{eqb, leb, ltb}
 use borrow.Author.Tests.{eq-eqb, ne-eqb, leb-true}
 use Rattle.store.proofs.Bools.{and-left, and-right}
-use Rattle.store.proofs.Laws.{total-append}
-use Rattle.store.specs.Uploads.{Card, holds, total}
-use Rattle.store.specs.Slots.{areaOf, sidesOk, noSlot, slotOf, place, slotsOf, cardAt, told, slotFor, fresh, zeroSlot, unused, heldOk, slotsOk}
+use Rattle.store.proofs.Laws.{without-append, length-without, total-append, total-without}
+use Rattle.store.specs.Uploads.{Card, without, holds, total}
+use Rattle.store.specs.Slots.{areaOf, sidesOk, noSlot, slotOf, place, slotsOf, cardAt, told, slotFor, stays, fresh, zeroSlot, unused, heldOk, slotsOk}
 use Rattle.store.specs.Tests.{laidOk}
 use Rattle.store.specs.declared.Slot.{Slot}
 use Rattle.store.specs.declared.Kind.{Kind}
@@ -83,14 +83,21 @@ at-holds k n ss e = found-holds k n ss ∙ ap isFound e
 pub none-holds : (k : Kind) (n : ℕ) (ss : List Slot) → slotFor n ss ≡ Nothing → holds n (told k ss) ≡ false
 none-holds k n ss e = found-holds k n ss ∙ ap isFound e
 
--- ---- what the slots up to i tell
-first-count : (k : Kind) (i : ℕ) (ss : List Slot) → i ≤ length ss → length (told k (take i ss)) ≤ i
-first-count k i ss h = omega (arith, length-told k (take i ss), length-take-le i ss h)
+-- the cards of the numbers other than n, up to index i
+abbrev pub kept : Kind → ℕ → ℕ → List Slot → List Card
+kept k n i ss = without n (told k (take i ss))
 
-first-total : (k : Kind) (i : ℕ) (ss : List Slot) → total (told k (take i ss)) ≤ total (told k ss)
-first-total k i ss =
+pub kept-all : (k : Kind) (n i : ℕ) (ss : List Slot) → length ss ≤ i → kept k n i ss ≡ without n (told k ss)
+kept-all k n i ss h = ap (λ (l : List Slot). without n (told k l)) (lib.Seq.take-all i ss h)
+
+pub kept-count : (k : Kind) (n i : ℕ) (ss : List Slot) → i ≤ length ss → length (kept k n i ss) ≤ i
+kept-count k n i ss h = omega (arith, length-without n (told k (take i ss)), length-told k (take i ss), length-take-le i ss h)
+
+pub kept-total : (k : Kind) (n i : ℕ) (ss : List Slot) → total (kept k n i ss) ≤ total (told k ss)
+kept-total k n i ss =
     omega (
       arith,
+      total-without n (told k (take i ss)),
       ap (λ (l : List Slot). total (told k l)) (take-append-drop i ss),
       ap total (told-append k (take i ss) (drop i ss)),
       total-append (told k (take i ss)) (told k (drop i ss)),
@@ -121,9 +128,20 @@ module _ (ss : List Slot) (i : ℕ) (here : i < length ss) where
   pub told-unheld : (k : Kind) → s .held ≡ false → told k (drop i ss) ≡ told k (drop (i + 1) ss)
   told-unheld k a = rw (slots-from, a)
 
-  -- closed
-  first-step : (k : Kind) → told k (take (i + 1) ss) ≡ told k (take i ss) ++ told k (s ∷ [])
-  first-step k = rw (add-one, take-suc ss i noSlot) (told-append k (take i ss) (s ∷ []))
+  -- others
+  kept-next : (k : Kind) (n : ℕ) → kept k n (i + 1) ss ≡ kept k n i ss ++ without n (told k (s ∷ []))
+  kept-next k n =
+      rw (add-one, take-suc ss i noSlot)
+      (ap (without n) (told-append k (take i ss) (s ∷ [])) ∙ without-append n (told k (take i ss)) (told k (s ∷ [])))
+
+  pub kept-step : (k : Kind) (n : ℕ) → kept k n (i + 1) ss ≡ cond (stays n s) (kept k n i ss ++ (cardAt k s ∷ [])) (kept k n i ss)
+  kept-step k n = kept-next k n ∙ go (s .held) (eqb (s .number) n) refl
+    where
+      go : (a b : Bool) → eqb (s .number) n ≡ b
+          → kept k n i ss ++ without n (cond a (cardAt k s ∷ []) []) ≡ cond (a && not b) (kept k n i ss ++ (cardAt k s ∷ [])) (kept k n i ss)
+      go false b e = append-nil (kept k n i ss)
+      go true true e = rw e (append-nil (kept k n i ss))
+      go true false e = rw e
 
   -- fresh_from, unused_from, laid_ok
   pub fresh-end : (n : ℕ) → s .held ≡ false → fresh n (drop i ss) ≡ true
@@ -175,40 +193,35 @@ area-most Model n h e =
     let b : Bool = leb n 18724 in
     omega (arith, leb-true n 18724 (and-right a b (and-left (a && b) (eqb h 0) e)))
 
--- ---- the turns of `closed`
--- the slots up to i are done: the cards that they tell stand in `out`, `count` of them, with so many words
-pub record Packed (k : Kind) (ss : List Slot) (i : ℕ) (out : List Slot) (count sum : ℕ) : Type 0 where
+-- ---- the turns of `others`
+-- the slots up to i are done: the cards of the other numbers stand in `out`, `count` of them, with so many words
+pub record Packed (k : Kind) (n : ℕ) (ss : List Slot) (i : ℕ) (out : List Slot) (count sum : ℕ) : Type 0 where
   pub within : i ≤ 64
   pub long : length ss ≡ 64
-  pub slots : out ≡ slotsOf (told k (take i ss))
-  pub count-is : count ≡ length (told k (take i ss))
-  pub sum-is : sum ≡ total (told k (take i ss))
+  pub slots : out ≡ slotsOf (kept k n i ss)
+  pub count-is : count ≡ length (kept k n i ss)
+  pub sum-is : sum ≡ total (kept k n i ss)
 
-module _ {k : Kind} {ss : List Slot} {i : ℕ} {out : List Slot} {count sum : ℕ} (p : Packed k ss i out count sum) where
+module _ {k : Kind} {n : ℕ} {ss : List Slot} {i : ℕ} {out : List Slot} {count sum : ℕ} (p : Packed k n ss i out count sum) where
   pub packed-count : count ≤ i
-  packed-count = omega (arith, p .count-is, first-count k i ss (omega (arith, p .within, p .long)))
+  packed-count = omega (arith, p .count-is, kept-count k n i ss (omega (arith, p .within, p .long)))
 
   pub packed-sum : sum ≤ total (told k ss)
-  packed-sum = omega (arith, p .sum-is, first-total k i ss)
+  packed-sum = omega (arith, p .sum-is, kept-total k n i ss)
 
   pub packed-length : length out ≡ 64
-  packed-length = ap length (p .slots) ∙ length-slotsOf (told k (take i ss)) (omega (arith, packed-count, p .within, p .count-is))
-
-  pub packed-all : 64 ≤ i → (out ≡ slotsOf (told k ss)) × ((count ≡ length (told k ss)) × (sum ≡ total (told k ss)))
-  packed-all h =
-      let all : told k (take i ss) ≡ told k ss = ap (told k) (take-all i ss (omega (arith, p .long))) in
-      (p .slots ∙ ap slotsOf all, (p .count-is ∙ ap length all, p .sum-is ∙ ap total all))
+  packed-length = ap length (p .slots) ∙ length-slotsOf (kept k n i ss) (omega (arith, packed-count, p .within, p .count-is))
 
   module _ (here : i < 64) where
     at-i : i < length ss
     at-i = omega (arith, p .long)
 
-    pub packed-more : (area : ℕ) → getD ss i noSlot .held ≡ true → area ≡ areaOf k (getD ss i noSlot .width) (getD ss i noSlot .height)
-        → Packed k ss (i + 1) (set out count (slotOf sum (cardAt k (getD ss i noSlot)))) (count + 1) (sum + area)
+    pub packed-more : (area : ℕ) → stays n (getD ss i noSlot) ≡ true → area ≡ areaOf k (getD ss i noSlot .width) (getD ss i noSlot .height)
+        → Packed k n ss (i + 1) (set out count (slotOf sum (cardAt k (getD ss i noSlot)))) (count + 1) (sum + area)
     packed-more area e a =
-        let cs : List Card = told k (take i ss) in
+        let cs : List Card = kept k n i ss in
         let c : Card = cardAt k (getD ss i noSlot) in
-        let next : told k (take (i + 1) ss) ≡ cs ++ (c ∷ []) = rw e at (first-step ss i at-i k) in
+        let next : kept k n (i + 1) ss ≡ cs ++ (c ∷ []) = rw e at (kept-step ss i at-i k n) in
         record {
           within = omega (arith, here);
           long = p .long;
@@ -217,7 +230,7 @@ module _ {k : Kind} {ss : List Slot} {i : ℕ} {out : List Slot} {count sum : �
           sum-is = omega (arith, p .sum-is, ap total next, total-append cs (c ∷ []));
         }
 
-    pub packed-same : getD ss i noSlot .held ≡ false → Packed k ss (i + 1) out count sum
+    pub packed-same : stays n (getD ss i noSlot) ≡ false → Packed k n ss (i + 1) out count sum
     packed-same e =
-        let next : told k (take (i + 1) ss) ≡ told k (take i ss) = rw (e, append-nil) at (first-step ss i at-i k) in
+        let next : kept k n (i + 1) ss ≡ kept k n i ss = rw e at (kept-step ss i at-i k n) in
         record { within = omega (arith, here); long = p .long; slots = rw next (p .slots); count-is = rw next (p .count-is); sum-is = rw next (p .sum-is) }

@@ -84,11 +84,6 @@ lookIn k ss store n = looked k store (slotFor n ss)
 abbrev pub stays : ℕ → Slot → Bool
 stays n s = s .held && not (eqb (s .number) n)
 
--- the slots with those that do not stay made unused, each where it stands
-abbrev pub blanked : ℕ → List Slot → List Slot
-blanked n [] = []
-blanked n (s ∷ ss) = cond (stays n s) s noSlot ∷ blanked n ss
-
 -- ---- an accepted upload: the slots, and the words
 -- "the new one stands last"
 abbrev pub slotsAfter : Card → List Card → List Slot
@@ -112,19 +107,6 @@ pub record Uploaded (k : Kind) (ss : List Slot) (store : List ℕ) (u : Whole) (
   pub answer : r .room ≡ room (length store) (told k ss) (u .number) (length (u .words))
   pub slots : r .slots ≡ cond (isFits (r .room)) (slotsAfter (card u) (told k ss)) ss
   pub words : after ≡ cond (isFits (r .room)) (wordsAfter (u .number) (u .words) (view k ss store) store) store
-
--- ---- closing up more than one at once: no rule of document 01, but a way to the same words (crate `ahead`)
--- held areas that lie in order from a word on and end within a size, with free words between them or none
-abbrev pub spreadOk : Kind → ℕ → ℕ → List Slot → Bool
-spreadOk k size at [] = leb at size
-spreadOk k size at (s ∷ ss) =
-    cond (s .held)
-    (leb at (s .start) && spreadOk k size (s .start + areaOf k (s .width) (s .height)) ss)
-    (spreadOk k size at ss)
-
--- the store whose first `old` words were in use, once the held areas have closed up
-abbrev pub closedUp : Kind → List Slot → ℕ → List ℕ → List ℕ
-closedUp k ss old store = over old (wordsOf (view k ss store)) store
 
 -- ---- well formed
 -- "with different numbers": none of the slots, up to the first unused one, has the number n

@@ -10,7 +10,7 @@ ghost use mathlib.Core.Bool.{true};
 ghost use Prim.Native.Nat.{_≤_};
 ghost use lib.ListN.{length};
 ghost use Rattle.store.specs.Uploads.{mostWords};
-ghost use Rattle.store.specs.Slots.{areaOf, sidesOk, noSlot, slotsOf, told, slotsOk, isFits, Uploaded, spreadOk, closedUp, wholeOf};
+ghost use Rattle.store.specs.Slots.{areaOf, sidesOk, noSlot, slotsOk, isFits, Uploaded, wholeOf};
 
 pub const SLOTS: usize = 64;
 
@@ -99,17 +99,4 @@ pub fn upload(
     words::put(kind, slots, store, number, words);
     let after = slots::slots_after(kind, slots, number, width, height);
     Stored { room, slots: after }
-}
-
-// The uploads whose slots have been made unused go at once: the others close up, in slots and words.
-pub fn retire(kind: Kind, slots: [Slot; SLOTS], store: &mut [u32], old: usize) -> [Slot; SLOTS]
-    requires { ⌜ spreadOk kind old 0 slots ≡ true ⌝ }
-    requires { ⌜ old ≤ length (now store) ⌝ }
-    requires { ⌜ length (now store) ≤ mostWords ⌝ }
-    ensures { λ r. ⌜ r ≡ slotsOf (told kind slots) ⌝ }
-    ensures { λ _. ⌜ now (store .exit) ≡ closedUp kind slots old (now (store .entry)) ⌝ }
-{
-    words::close_up(kind, slots, store, old);
-    let left = slots::closed(kind, slots);
-    left.slots
 }

@@ -8,7 +8,7 @@ ghost use mathlib.Core.Path.{_≡_};
 ghost use Prim.Native.Nat.{_+_, _≤_, _<_};
 ghost use lib.ListN.{length};
 ghost use Rattle.store.specs.Uploads.{without, total, mostWords, slotCount, room};
-ghost use Rattle.store.specs.Slots.{areaOf, told, slotFor, slotsOf, slotsAfter, cardOf, stays, blanked};
+ghost use Rattle.store.specs.Slots.{areaOf, told, slotFor, slotsOf, slotsAfter, cardOf, stays};
 
 // The held slot with this number.
 pub fn find(slots: [Slot; SLOTS], number: u32) -> Found
@@ -92,34 +92,17 @@ fn keeps(s: Slot, number: u32) -> bool
     false
 }
 
-// The slots with those under the number made unused, each where it stands.
-pub fn blank(slots: [Slot; SLOTS], number: u32) -> [Slot; SLOTS]
-    ensures { λ r. ⌜ r ≡ blanked number slots ⌝ }
-{
-    let mut out = [Slot::UNUSED; SLOTS];
-    let mut i = 0;
-    while i < SLOTS {
-        let s = slots[i];
-        if keeps(s, number) {
-            out[i] = s;
-        }
-        i += 1;
-    }
-    out
-}
-
-// Slots closed up, how many are held, and how many words they take.
+// The uploads under other numbers, closed up.
 pub struct Left {
     pub slots: [Slot; SLOTS],
     pub count: usize,
     pub total: usize,
 }
 
-// The held slots, closed up: areas back to back from word 0.
-pub fn closed(kind: Kind, slots: [Slot; SLOTS]) -> Left
+fn others(kind: Kind, slots: [Slot; SLOTS], number: u32) -> Left
     requires { ⌜ total (told kind slots) ≤ mostWords ⌝ }
-    ensures { λ r. ⌜ r .slots ≡ slotsOf (told kind slots) ⌝ }
-    ensures { λ r. ⌜ (r .count ≡ length (told kind slots)) × (r .total ≡ total (told kind slots)) ⌝ }
+    ensures { λ r. ⌜ r .slots ≡ slotsOf (without number (told kind slots)) ⌝ }
+    ensures { λ r. ⌜ (r .count ≡ length (without number (told kind slots))) × (r .total ≡ total (without number (told kind slots))) ⌝ }
 {
     let mut out = [Slot::UNUSED; SLOTS];
     let mut i = 0;
@@ -128,7 +111,7 @@ pub fn closed(kind: Kind, slots: [Slot; SLOTS]) -> Left
     while i < SLOTS {
         let s = slots[i];
         i += 1;
-        if s.held {
+        if keeps(s, number) {
             out[count] = Slot {
                 held: true,
                 number: s.number,
@@ -159,7 +142,7 @@ pub fn slots_after(
     requires { ⌜ length (without number (told kind slots)) < slotCount ⌝ }
     ensures { λ r. ⌜ r ≡ slotsAfter (cardOf kind number width height) (told kind slots) ⌝ }
 {
-    let left = closed(kind, blank(slots, number));
+    let left = others(kind, slots, number);
     let i = left.count;
     let mut out = left.slots;
     out[i] = Slot {

@@ -14,7 +14,7 @@ ghost use mathlib.Core.List.{_++_};
 ghost use lib.ListN.{length, take, drop, replicate};
 ghost use lib.Seq.{paste};
 ghost use Rattle.store.specs.Uploads.{without, total, mostWords};
-ghost use Rattle.store.specs.Slots.{told, view, over, wordsAfter, spreadOk, closedUp, slotsOk};
+ghost use Rattle.store.specs.Slots.{told, view, over, wordsAfter, slotsOk};
 
 // The words from `from` up to `end` stand from `to` on afterwards, each moved once; the rest stays.
 fn move_down(store: &mut [u32], to: usize, from: usize, end: usize)
@@ -87,37 +87,4 @@ pub fn put(kind: Kind, slots: [Slot; SLOTS], store: &mut [u32], number: u32, wor
     let to = s.start as usize;
     move_down(store, to, to + size, end);
     put_last(store, end - size, words, end);
-}
-
-// The n words from `from` on stand from `to` on afterwards; the rest stays. Words that stand there already are not touched.
-fn bring_down(store: &mut [u32], to: usize, from: usize, n: usize)
-    requires { ⌜ to ≤ from ⌝ }
-    requires { ⌜ from + n ≤ length (now store) ⌝ }
-    ensures { λ _. ⌜ now (store .exit) ≡ paste (now (store .entry)) to (drop from (now (store .entry))) n ⌝ }
-{
-    if to < from {
-        move_down(store, to, from, from + n);
-    }
-}
-
-// Held areas that lie in order among the first `old` words close up, each moved once; then zeros up to `old`; the rest stays.
-pub fn close_up(kind: Kind, slots: [Slot; SLOTS], store: &mut [u32], old: usize)
-    requires { ⌜ spreadOk kind old 0 slots ≡ true ⌝ }
-    requires { ⌜ old ≤ length (now store) ⌝ }
-    ensures { λ _. ⌜ now (store .exit) ≡ closedUp kind slots old (now (store .entry)) ⌝ }
-{
-    let mut i = 0;
-    let mut end = 0;
-    while i < SLOTS {
-        let s = slots[i];
-        i += 1;
-        if s.held {
-            let n = area(kind, s.width, s.height);
-            let from = s.start as usize;
-            bring_down(store, end, from, n);
-            end += n;
-        }
-    }
-    let free = old - end;
-    clear(store, end, free);
 }
