@@ -26,7 +26,7 @@ const fn outside(profile: Profile) -> Profile {
 }
 
 #[rustfmt::skip]
-pub static PROFILES: [Profile; 23] = [
+pub static PROFILES: [Profile; 22] = [
     profile("clear", steps::clears, 14,
         "clears with every flag value, known or not, between draws"),
     profile("settings", steps::settings, 20,
@@ -45,8 +45,6 @@ pub static PROFILES: [Profile; 23] = [
         "models sent, sent again and drawn in modes 0 to 2; records that are refused"),
     profile("uploads", steps::uploads, 16,
         "textures of many shapes, sent again under the same numbers, each drawn at once"),
-    profile("again", steps::again, 14,
-        "textures sent in a row, mostly again and in their old size, then drawn"),
     profile("numbers", steps::numbers, 24,
         "numbers of textures and models that agree in their low or in their high bits"),
     profile("clipping", steps::clipping, 40,

@@ -10,7 +10,7 @@ pub use faults::{broken_end, cuts, damaged, framing};
 pub use flat::{flat, flat_beyond, flat_sides};
 pub use odd_floats::{extremes, specials, NAN_DEPTH};
 pub use triangles::{clipping, matrices, textured, transformed, unusual_matrices};
-pub use uploads::{again, crowded, full, large, largest, models, numbers, uploads};
+pub use uploads::{crowded, full, large, largest, models, numbers, uploads};
 
 use crate::maker::Maker;
 use crate::streams::Command;

@@ -197,17 +197,14 @@ fn upload(name: &str, command: Command) -> Work {
     Work::new(name, "upload", 1, words_of(&[command]))
 }
 
-/// Of 64 held, any is sent again; or the oldest each time, so that all others move. In one call, or a call for each.
-fn uploads_again(which: &str, numbers: Vec<u32>, calls: &str) -> Work {
+/// Of 64 held, any is sent again; or the oldest each time, so that all others move. A call for each.
+fn uploads_again(which: &str, numbers: Vec<u32>) -> Work {
     let sent: Vec<Command> = numbers.iter().map(|&number| texture(number, 64, 64)).collect();
     let all: Vec<Command> = (0..64).map(|number| texture(number, 64, 64)).collect();
-    let (name, words) = (format!("17, 64 by 64, again, {which} of 64 held, {calls}"), words_of(&sent));
-    let per_call = if calls == ONE_CALL { words.len() } else { words.len() / sent.len() };
+    let (name, words) = (format!("17, 64 by 64, again, {which} of 64 held, a call each"), words_of(&sent));
+    let per_call = words.len() / sent.len();
     Work { per_call, ..Work::new(&name, "upload", sent.len(), words).after(words_of(&all)) }
 }
-
-const ONE_CALL: &str = "in one call";
-const A_CALL_EACH: &str = "a call each";
 
 fn any_of_64() -> Vec<u32> {
     let mut random = Random::named("again", 1, 0);
@@ -267,10 +264,8 @@ pub fn all(scenes: &str) -> Result<Vec<Work>, String> {
     works.push(model_draw(500));
     works.push(upload("17, 256 by 256", texture(1, 256, 256)));
     works.push(upload("17, 1024 by 1024", texture(1, 1024, 1024)));
-    for calls in [ONE_CALL, A_CALL_EACH] {
-        works.push(uploads_again("any", any_of_64(), calls));
-        works.push(uploads_again("the oldest", (0..64).collect(), calls));
-    }
+    works.push(uploads_again("any", any_of_64()));
+    works.push(uploads_again("the oldest", (0..64).collect()));
     works.push(upload("1A, 18,724 triangles", model(1, 18_724)));
     works.extend(frames(scenes)?);
     works.extend([payload(524_292), single_words(0), single_words(64)]);

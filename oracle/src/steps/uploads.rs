@@ -55,27 +55,6 @@ pub fn uploads(maker: &mut Maker) {
     maker.send_draws(1);
 }
 
-/// Textures sent in a row, mostly again and in their old size: a call that has several of them takes the old ones out at once.
-pub fn again(maker: &mut Maker) {
-    for _ in 0..2 + maker.random.below(7) {
-        let number = maker.random.below(7);
-        let (width, height) = match maker.random.below(12) {
-            0 => (2, 3),
-            1 => (1 + number % 4, 2 + number % 3),
-            _ => (1 + number % 4, 1 + number % 3),
-        };
-        maker.upload_texture(number, width, height);
-    }
-    if maker.random.chance(25) {
-        maker.refresh();
-    }
-    for _ in 0..1 + maker.random.below(3) {
-        let triangle = maker.triangle_of_size(0.5);
-        let command = Command::textured(maker.held_texture(), maker.mode(), &triangle);
-        maker.send(command);
-    }
-}
-
 /// Numbers that agree in their low bits, in their high bits, or in both ends.
 const ALIKE: [[u32; 6]; 4] = [
     [1, 0x8000_0001, 0x0001_0001, 0x0100_0001, 0x0000_0101, 0x0000_0041],
