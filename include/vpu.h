@@ -18,8 +18,7 @@
  *     as that call left it. (A host may change either: every call still has an answer, and does to that
  *     memory what the rules say. But then it is not drawing what its words say.)
  *
- * Words may be cut into calls anywhere. A call costs about a microsecond, so that a host sends what it has in one;
- * textures that are sent again, one after the other and in their old size, cost least so: the others move once.
+ * Words may be cut into calls anywhere. A call costs about a microsecond, so that a host sends what it has in one.
  */
 #ifndef VPU_H
 #define VPU_H
