@@ -1,4 +1,5 @@
 pub mod Words
+pub mod Whole
 pub mod Laws
 pub mod Once
 pub mod Returned
