@@ -28,11 +28,12 @@ use Rattle.execute.specs.Control.{Keep, Seen, execute, executed}
 use Rattle.execute.specs.Kept.{Machine, machine, asBox, Formed, shelf, lookOn}
 use Rattle.execute.proofs.Formed.{Stands, execute-stands}
 use Rattle.execute.proofs.Executed.{paint-executed}
-use Rattle.vpu.specs.declared.frame.Frame.{Frame}
+use Rattle.framing.specs.declared.Frame.{Frame}
 use Rattle.vpu.specs.Framing.{word, header, gather, wordOn, run}
-use Rattle.vpu.specs.Frames.{frame, frameOf, withFrame, droppedFrame, wordFrame, wordArea, readyOf, betweenOf, gatheredFrame, changes, Sound}
+use Rattle.framing.specs.Frames.{frame, frameOf, withFrame, droppedFrame, wordFrame, wordArea, readyOf, betweenOf, gatheredFrame}
+use Rattle.vpu.specs.Sound.{changes, Sound}
 use Rattle.vpu.specs.Calls.{stateOf, outcome, lengthsOk, feed, cleared, reset}
-use Rattle.vpu.proofs.Words.{Case, zero-opcode, too-many, at-once, begins, last, more, case-of, idle, gathering, begun-fits, word-fits, word-begun, word-payload, area-header, area-payload, area-length, ready-idle, ready-whole, ready-wanting, between-fits, case-zero, case-many, case-begun}
+use Rattle.framing.proofs.Words.{Case, zero-opcode, too-many, at-once, begins, last, more, case-of, idle, gathering, begun-fits, word-fits, word-begun, word-payload, area-header, area-payload, area-length, ready-idle, ready-whole, ready-wanting, between-fits, case-zero, case-many, case-begun}
 
 -- machines that agree, part by part
 pub record Same (s : State) (P : List ℕ) (D : List ℤ) (F : List Float) (C T M : List ℕ) (s′ : State) (P′ : List ℕ) (D′ : List ℤ) (F′ : List Float) (C′ T′ M′ : List ℕ) : Type 0 where

@@ -1,4 +1,3 @@
-pub mod Words
 pub mod Whole
 pub mod Laws
 pub mod Once

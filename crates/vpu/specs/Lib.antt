@@ -1,4 +1,4 @@
 pub mod Framing
 pub mod Whole
-pub mod Frames
+pub mod Sound
 pub mod Calls

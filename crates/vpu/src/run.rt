@@ -1,7 +1,6 @@
 // The loop over the words: payload is copied in runs and moves four numbers, as commands that paint do; the
 // others move the state.
-use crate::frame;
-use crate::frame::Frame;
+use framing::Frame;
 use state::State;
 ghost use mathlib.Core.Path.{_≡_};
 ghost use mathlib.Core.Bool.{true, false};
@@ -14,7 +13,8 @@ ghost use Rattle.store.specs.declared.Kind.the-variants as kind;
 ghost use Rattle.execute.specs.Control.{executed};
 ghost use Rattle.execute.specs.Kept.{machine, asBox};
 ghost use Rattle.vpu.specs.Framing.{run};
-ghost use Rattle.vpu.specs.Frames.{withFrame, changes, Sound};
+ghost use Rattle.framing.specs.Frames.{withFrame};
+ghost use Rattle.vpu.specs.Sound.{changes, Sound};
 
 // Can the command change settings or stores?
 fn changes(op: u32) -> bool
@@ -90,16 +90,16 @@ pub fn run_words(
         ≡ run asBox (machine state (now (plane .entry)) (now (depth .entry)) (now («depth_f32» .entry)) (now (command .entry)) (now (textures .entry)) (now (models .entry))) (now (words .entry)) ⌝ }
 {
     let mut s = state;
-    let mut f = frame::frame_of(state);
+    let mut f = framing::frame_of(state);
     let mut k = 0;
     while k < words.len() {
         let w = words[k];
         k += 1;
-        f = frame::take_word(f, w, command);
-        if frame::ready(f) {
+        f = framing::take_word(f, w, command);
+        if framing::ready(f) {
             if changes(f.opcode) {
                 s = execute::execute(
-                    frame::with_frame(s, f),
+                    framing::with_frame(s, f),
                     plane,
                     depth,
                     depth_f32,
@@ -107,15 +107,15 @@ pub fn run_words(
                     textures,
                     models,
                 );
-                f = frame::frame_of(s);
+                f = framing::frame_of(s);
             } else {
                 f = painted(s, f, plane, depth, depth_f32, command, textures, models);
             }
         } else {
-            let n = frame::between(f, words.len() - k);
-            f = frame::gather(f, &words[k..k + n], command);
+            let n = framing::between(f, words.len() - k);
+            f = framing::gather(f, &words[k..k + n], command);
             k += n;
         }
     }
-    frame::with_frame(s, f)
+    framing::with_frame(s, f)
 }

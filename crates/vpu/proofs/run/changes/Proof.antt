@@ -2,7 +2,7 @@
 use mathlib.Core.Path.{sym, _∙_}
 use borrow.Author.Needs.{needs}
 use borrow.Author.Tests.{ne-eqb}
-use Rattle.vpu.specs.Frames.{changes}
+use Rattle.vpu.specs.Sound.{changes}
 use Rattle.vpu.proofs.run.changes.Statement.{statement}
 use Rattle.vpu.proofs.run.changes.Tie as tie
 

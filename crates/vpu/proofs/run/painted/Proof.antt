@@ -1,7 +1,7 @@
 -- A command that paints is the definition's, whose state is the one at hand with another frame. Assumes nothing.
 use mathlib.Core.Path.{sym, ap}
 use lib.Seq.{length-take-le}
-use Rattle.vpu.specs.Frames.{frame}
+use Rattle.framing.specs.Frames.{frame}
 use Rattle.vpu.proofs.Laws.{painted-is}
 use borrow.Author.Needs.{needs}
 use Rattle.vpu.proofs.run.painted.Statement.{statement}

@@ -1,9 +1,9 @@
 -- The status is the verdict's, and the other numbers stay. Assumes nothing.
 use mathlib.Core.Path.{ap}
 use borrow.Author.Needs.{needs}
-use Rattle.vpu.specs.Frames.{frame}
-use Rattle.vpu.proofs.frame.dropped.Statement.{statement}
-use Rattle.vpu.proofs.frame.dropped.Tie as tie
+use Rattle.framing.specs.Frames.{frame}
+use Rattle.framing.proofs.dropped.Statement.{statement}
+use Rattle.framing.proofs.dropped.Tie as tie
 
 status-after-requires : tie.Need-status-after-requires
 status-after-requires c κs = search needs

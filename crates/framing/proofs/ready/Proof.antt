@@ -1,8 +1,8 @@
 -- By the test of the missing words. Assumes nothing.
 use borrow.Author.Tests.{eq-eqb, ne-eqb}
-use Rattle.vpu.specs.Frames.{readyOf}
-use Rattle.vpu.proofs.frame.ready.Statement.{statement}
-use Rattle.vpu.proofs.frame.ready.Tie as tie
+use Rattle.framing.specs.Frames.{readyOf}
+use Rattle.framing.proofs.ready.Statement.{statement}
+use Rattle.framing.proofs.ready.Tie as tie
 
 returns : tie.Need-returns
 unfolding readyOf

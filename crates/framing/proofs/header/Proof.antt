@@ -1,9 +1,9 @@
 -- Each way out is a case of the definition. Assumes nothing.
 use mathlib.Core.Path.{sym, _∙_}
 use borrow.Author.Needs.{needs}
-use Rattle.vpu.proofs.Words.{header-zero, header-many, header-begun}
-use Rattle.vpu.proofs.frame.header.Statement.{statement}
-use Rattle.vpu.proofs.frame.header.Tie as tie
+use Rattle.framing.proofs.Words.{header-zero, header-many, header-begun}
+use Rattle.framing.proofs.header.Statement.{statement}
+use Rattle.framing.proofs.header.Tie as tie
 
 dropped-requires : tie.Need-dropped-requires
 dropped-requires c κs = search needs

@@ -1,7 +1,6 @@
--- The framing's four numbers by themselves, as the code carries them through payload words; `Framing.antt` is what a word does. Definitions only.
+-- The framing's four numbers by themselves, as the code carries them through payload words; `vpu/specs/Framing.antt` is what a word does. Definitions only.
 use Prim.Native.Nat.{ℕ, _+_, _-_, _/_, _%_, min}
-use mathlib.Core.Path.{_≡_}
-use mathlib.Core.Bool.{Bool, true, false, cond, not}
+use mathlib.Core.Bool.{Bool, false, cond, not}
 use mathlib.Core.List.{List}
 use lib.Bits.{bitOr}
 use lib.Dec.{eqb, ltb}
@@ -9,14 +8,9 @@ use lib.ListN.{set}
 use Rattle.verdict.specs.Verdict.{bitFor, numberOf}
 use Rattle.verdict.specs.declared.Reason.{Reason}
 use Rattle.verdict.specs.declared.Reason.the-variants.{ZeroOpcode, CountTooLarge}
-use Rattle.screen.specs.Plane.{planeBytes}
-use Rattle.screen.specs.Draw.{pixels}
-use Rattle.store.specs.declared.Kind.the-variants.{Texture, Model}
-use Rattle.state.specs.State.{mostPayload, begunOk}
+use Rattle.state.specs.State.{mostPayload}
 use Rattle.state.specs.declared.State.{State}
-use Rattle.execute.specs.Commands.{sets}
-use Rattle.execute.specs.Kept.{Formed}
-use Rattle.vpu.specs.declared.frame.Frame.{Frame}
+use Rattle.framing.specs.declared.Frame.{Frame}
 
 abbrev pub frame : ℕ → ℕ → ℕ → ℕ → Frame
 frame o g w s = record { opcode = o; gathered = g; wanted = w; status = s }
@@ -59,17 +53,3 @@ gatheredFrame f n = frame (f .opcode) (f .gathered + n) (f .wanted - n) (f .stat
 -- a command is begun and its payload is complete
 unfoldable pub readyOf : Frame → Bool
 readyOf f = cond (eqb (f .wanted) 0) (not (eqb (f .opcode) 0)) false
-
--- the commands that can change settings or stores: 01, 02 and 15, 17, 1A
-unfoldable pub changes : ℕ → Bool
-changes op = cond (sets op) true (cond (eqb op 0x17) true (eqb op 0x1a))
-
--- a machine that words may be run on: lent memories of these lengths, a begun command and stores that are well formed
-pub record Sound (s : State) (plane depth depthF command textures models : ℕ) : Type 0 where
-  pub of-plane : plane ≡ planeBytes
-  pub of-depth : depth ≡ pixels
-  pub of-floats : depthF ≡ pixels
-  pub of-command : command ≡ mostPayload
-  pub begun : begunOk (s .opcode) (s .gathered) (s .wanted) ≡ true
-  pub of-textures : Formed Texture (s .textures) textures
-  pub of-models : Formed Model (s .models) models

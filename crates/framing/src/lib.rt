@@ -8,7 +8,7 @@ ghost use mathlib.Core.Path.{_≡_};
 ghost use Prim.Native.Nat.{_+_, _≤_};
 ghost use lib.ListN.{length};
 ghost use lib.Seq.{paste};
-ghost use Rattle.vpu.specs.Frames.{frameOf, withFrame, droppedFrame, headerFrame, wordFrame, wordArea, readyOf, betweenOf, gatheredFrame};
+ghost use Rattle.framing.specs.Frames.{frameOf, withFrame, droppedFrame, headerFrame, wordFrame, wordArea, readyOf, betweenOf, gatheredFrame};
 ghost use Rattle.state.specs.State.{mostPayload};
 
 pub struct Frame {

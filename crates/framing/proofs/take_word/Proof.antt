@@ -1,9 +1,9 @@
 -- By the test of the missing words: a header leaves the area, a payload word is set in it. Assumes nothing.
 use mathlib.Core.Path.{sym, _∙_}
 use borrow.Author.Needs.{needs}
-use Rattle.vpu.proofs.Words.{word-header, word-payload, area-header, area-payload}
-use Rattle.vpu.proofs.frame.take_word.Statement.{statement}
-use Rattle.vpu.proofs.frame.take_word.Tie as tie
+use Rattle.framing.proofs.Words.{word-header, word-payload, area-header, area-payload}
+use Rattle.framing.proofs.take_word.Statement.{statement}
+use Rattle.framing.proofs.take_word.Tie as tie
 
 header-requires : tie.Need-header-requires
 header-requires c κs = search needs

@@ -11,8 +11,8 @@ use lib.Dec.{eqb, ltb}
 use lib.ListN.{length, set, length-set}
 use Rattle.verdict.specs.declared.Reason.the-variants.{ZeroOpcode, CountTooLarge}
 use Rattle.state.specs.State.{mostPayload, begunOk}
-use Rattle.vpu.specs.declared.frame.Frame.{Frame}
-use Rattle.vpu.specs.Frames.{frame, droppedFrame, headerFrame, wordFrame, wordArea, readyOf, betweenOf}
+use Rattle.framing.specs.declared.Frame.{Frame}
+use Rattle.framing.specs.Frames.{frame, droppedFrame, headerFrame, wordFrame, wordArea, readyOf, betweenOf}
 
 -- ---- no command is begun, or one that wants more words
 pub record Idle (opcode gathered wanted : ℕ) : Type 0 where
