@@ -2,3 +2,4 @@ pub mod Laws
 pub mod Formed
 pub mod Painted
 pub mod Executed
+pub mod Traps

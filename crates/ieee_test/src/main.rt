@@ -84,8 +84,12 @@ fn lines(bytes: &[u8]) {
     line(b"sqrt", 15, bytes);
 }
 
+fn replayed(bytes: &mut [u8]) {
+    let got = io::read_full(STDIN_FILENO, bytes);
+    lines(&bytes[..got]);
+}
+
 fn main() {
     let mut bytes = [0u8; 524288];
-    let got = io::read_full(STDIN_FILENO, &mut bytes);
-    lines(&bytes[..got]);
+    replayed(&mut bytes);
 }

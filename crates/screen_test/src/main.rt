@@ -112,13 +112,17 @@ fn depth_line(depth: &mut [i32], depth_f32: &mut [f32]) {
     text(b"\n");
 }
 
+fn lines(colours: &mut [u8], plane: &mut [u8], depth: &mut [i32], depth_f32: &mut [f32]) {
+    io::read_full(STDIN_FILENO, colours);
+    dither_lines();
+    screen_lines(plane, colours);
+    depth_line(depth, depth_f32);
+}
+
 fn main() {
     let mut colours = [0u8; 96];
     let mut plane = [0u8; 307200];
     let mut depth = [0i32; 76800];
     let mut depth_f32 = [0f32; 76800];
-    io::read_full(STDIN_FILENO, &mut colours);
-    dither_lines();
-    screen_lines(&mut plane, &colours);
-    depth_line(&mut depth, &mut depth_f32);
+    lines(&mut colours, &mut plane, &mut depth, &mut depth_f32);
 }

@@ -7,10 +7,8 @@ mod refusal;
 use state::State;
 ghost use Prim.Native.Nat.{_<_};
 
-// Each has room for the greatest upload; with the other buffers they fill most of an 8 MB stack.
-const TEXTURES: usize = 640000;
-
-const MODELS: usize = 530000;
+// Each store has room for the greatest upload of its kind, once.
+const STORE: usize = 524288;
 
 const CHUNK: usize = 65536;
 
@@ -89,8 +87,8 @@ fn main() {
     let mut depth = [0i32; 76800];
     let mut depth_f32 = [0f32; 76800];
     let mut command = [0u32; 524291];
-    let mut textures = [0u32; TEXTURES];
-    let mut models = [0u32; MODELS];
+    let mut textures = [0u32; STORE];
+    let mut models = [0u32; STORE];
     let begun = vpu::reset(
         &mut plane,
         &mut depth,
