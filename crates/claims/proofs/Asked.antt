@@ -9,7 +9,7 @@ use lib.Bits.{bitOr}
 use lib.Dec.{eqb, leb, ltb}
 use lib.Ieee.{Float}
 use lib.ListN.{length}
-use borrow.Author.Tests.{eqb-true, eqb-false, le-leb, eq-eqb}
+use borrow.Author.Tests.{eqb-true, eqb-false, le-leb}
 use Rattle.verdict.specs.Verdict.{numberOf, bitsOf}
 use Rattle.verdict.specs.declared.Reason.{Reason}
 use Rattle.verdict.specs.declared.Reason.the-variants.{NotHeld}
@@ -24,10 +24,14 @@ use Rattle.store.specs.declared.Room.the-variants.{Fits, NoSlot, NoWords}
 use Rattle.store.specs.Uploads.{Whole, Card, cards, find, holds, live, total, room, isSome}
 use Rattle.store.specs.Slots.{isFits}
 use Rattle.decide.specs.Verdicts.{checkedVerdict, texturedVerdict, triangleOf, recordsVerdict}
-use Rattle.draw.specs.Draws.{texturedStrokes, recordsStrokes, modelVerdict, modelStrokes}
+use Rattle.draw.specs.Draws.{texturedStrokes, recordsStrokes}
 use Rattle.execute.specs.Paints as paints
-use Rattle.execute.specs.Commands.{Look, Load, Told, tells, toldBy, asPaints, sets, loads, textureIn, modelIn, textureVerdict, countVerdict, loadTold, texturedStroked, modelStroked, floatsBy, paintedBy, told}
+use Rattle.execute.specs.declared.command.Draw.the-variants as draw
+use Rattle.execute.specs.Commands.{Look, Load, Told, tells, toldBy, textureIn, modelIn, textureVerdict, countVerdict, texturedPainted, told}
 use Rattle.execute.specs.Control.{Control, roomVerdict, execute}
+use Rattle.execute.proofs.Told.{told-as, command-of-17, command-of-18, command-of-19, command-of-1a}
+use Rattle.execute.proofs.Painted.{painted-whole}
+use Rattle.claims.proofs.Refused.{model-none, model-exact}
 use Rattle.claims.proofs.Reasons.{checked-so, told-so}
 use Rattle.claims.specs.Plain.{Past, past, history, accepted, asPast}
 
@@ -112,39 +116,33 @@ pub draw-record : (h : Past) (s : Settings) (mode : ℕ) (words : List ℕ) → 
 draw-record h s mode words m = found-draws s (triangleOf mode words) m true (find (wordAt words 0) (h .textures))
 
 module _ (size : Kind → ℕ) (h : Past) (s : Settings) (p : List ℕ) (mode : wordAt p 1 ≤ 2) where
-  textured-draws : (normal : Bool) → Draws (find (wordAt p 0) (h .textures)) s p normal (toldBy s (asPaints (texturedStroked (asPast size .look h) s normal p)))
-  unfolding texturedStroked
+  textured-draws : (normal : Bool) → Draws (find (wordAt p 0) (h .textures)) s p normal (toldBy s (texturedPainted (asPast size .look h) s normal p))
+  unfolding texturedPainted
   textured-draws normal = found-draws s p mode normal (find (wordAt p 0) (h .textures))
 
   pub draw-18 : length p ≡ 20 → Draws (find (wordAt p 0) (h .textures)) s p false (told (asPast size .look h) s 0x18 p)
-  unfolding told sets loads paintedBy floatsBy
-  draw-18 n = rw (eq-eqb (length p) 20 n) (textured-draws false)
+  draw-18 n = rw (told-as (asPast size .look h) s 0x18 p command-of-18, painted-whole (asPast size .look h) s (draw.Textured false) p n) (textured-draws false)
 
   pub draw-19 : length p ≡ 29 → Draws (find (wordAt p 0) (h .textures)) s p true (told (asPast size .look h) s 0x19 p)
-  unfolding told sets loads paintedBy floatsBy
-  draw-19 n = rw (eq-eqb (length p) 29 n) (textured-draws true)
+  draw-19 n = rw (told-as (asPast size .look h) s 0x19 p command-of-19, painted-whole (asPast size .look h) s (draw.Textured true) p n) (textured-draws true)
 
   -- ---- 1B: the model, and for each of its triangles the texture under that triangle's number
   pub draw-1b-none : length p ≡ 2 → find (wordAt p 0) (h .models) ≡ none → told (asPast size .look h) s 0x1b p ≡ tells (Refused NotHeld 0) s []
-  unfolding told sets loads paintedBy floatsBy modelStroked modelVerdict modelStrokes
-  draw-1b-none n e = rw (eq-eqb (length p) 2 n, e, le-leb (wordAt p 1) 2 mode)
+  draw-1b-none n e = model-none (asPast size .look h) s p n mode e
 
   pub draw-1b : (u : Whole) → length p ≡ 2 → find (wordAt p 0) (h .models) ≡ some u
       → told (asPast size .look h) s 0x1b p
       ≡ tells (recordsVerdict (wordAt p 1) (λ k. isSome (find k (h .textures))) (s .matrices) (u .wide) (u .words)) s
       (map paints.stroked (recordsStrokes s (wordAt p 1) (λ k. find k (h .textures)) (u .wide) (u .words)))
-  unfolding told sets loads paintedBy floatsBy modelStroked modelVerdict modelStrokes
-  draw-1b u n e = rw (eq-eqb (length p) 2 n, e, le-leb (wordAt p 1) 2 mode)
+  draw-1b u n e = model-exact (asPast size .look h) s p n u mode e
 
 -- ---- uploads
 -- 17 and 1A that pass their checks are to be kept, and else nothing is
 pub load-17 : (look : Look) (s : Settings) (p : List ℕ) → told look s 0x17 p .load ≡ whenDone (textureVerdict p) (some (textureIn p)) none
-unfolding told sets loads loadTold
-load-17 look s p = refl
+load-17 look s p = ap (λ (t : Told). t .load) (told-as look s 0x17 p command-of-17)
 
 pub load-1a : (look : Look) (s : Settings) (p : List ℕ) → told look s 0x1a p .load ≡ whenDone (countVerdict p) (some (modelIn p)) none
-unfolding told sets loads loadTold
-load-1a look s p = refl
+load-1a look s p = ap (λ (t : Told). t .load) (told-as look s 0x1a p command-of-1a)
 
 -- a payload done with is no upload
 cleared : (h : Past) (k : Kind) → history (past (h .textures) (h .models) []) k ≡ history h k

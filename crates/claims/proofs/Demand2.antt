@@ -24,7 +24,12 @@ use Rattle.store.specs.Uploads.{Whole, find}
 use Rattle.flat.specs.Words.{signedAt, inReach, firstOut, flatVerdict, triOf}
 use Rattle.state.specs.State.{mostPayload}
 use Rattle.execute.specs.Paints.{Picture, flat, paintsOn}
-use Rattle.execute.specs.Commands.{Look, Load, Told, tells, loading, textureVerdict, countVerdict, textureIn, modelIn, settingsAfter, toldOf, toldBy, sets, loads, loadTold, flatPainted, paintedBy, told}
+use Rattle.execute.specs.declared.command.Draw.the-variants as draw
+use Rattle.execute.specs.declared.command.Command.{Command}
+use Rattle.execute.specs.declared.command.Command.the-variants.{Sets, Loads, Paints, Unknown}
+use Rattle.execute.specs.Commands.{Look, Load, Told, tells, commandOf, loading, textureVerdict, countVerdict, textureIn, modelIn, flatPainted, toldBy, toldAs, told}
+use Rattle.execute.proofs.Told.{told-as, command-of-12}
+use Rattle.execute.proofs.Painted.{painted-whole}
 use Rattle.execute.specs.Control as control
 use Rattle.execute.specs.Control.{Control, Step, Seen, stepped, verdictOf, keptOf}
 use Rattle.vpu.specs.Framing.{dropped, header, gather, word, wordOn, run}
@@ -48,8 +53,8 @@ near-done p [] h = refl
 near-done p (k ∷ ks) h = rw (le-leb (natAbs (signedAt p k)) 8192 (h .0)) (near-done p ks (h .1))
 
 flat-told : (held : Look) (s : Settings) (p : List ℕ) → length p ≡ 11 → Near p corners → told held s 0x12 p ≡ tells Done s (flat (triOf p) ∷ [])
-unfolding told sets loads paintedBy flatPainted flatVerdict
-flat-told held s p n h = rw (eq-eqb (length p) 11 n, near-done p corners h)
+unfolding flatPainted flatVerdict
+flat-told held s p n h = told-as held s 0x12 p command-of-12 ∙ ap (toldBy s) (painted-whole held s draw.Flat p n) ∙ rw (near-done p corners h)
 
 -- a near triangle is drawn by both, and the other arms are one text
 arm-told : (held : Look) (s : Settings) (op : ℕ) (p : List ℕ) → (op ≡ 0x12 → length p ≡ 11 → Near p corners) → arm held s op p ≡ told held s op p
@@ -72,30 +77,30 @@ loading-done : (v : Verdict) (s : Settings) (m : Load) → Passes (loading v s m
 loading-done Done s m l e = refl
 loading-done (Refused r i) s m l e = let z : _≡_ {A = ℕ} 0 1 = cc in absurd (omega arith)
 
-either : (R : Told → Type 0) (b : Bool) (x y : Told) → R x → R y → R (cond b x y)
-either R true x y p q = p
-either R false x y p q = q
-
 nothing : {A : Type 0} {a b : A} {l : Load} → none ≡ some l → a ≡ b
 nothing e = let z : _≡_ {A = ℕ} 0 1 = cc in absurd (omega arith)
 
+as-done : (held : Look) (s : Settings) (c : Command) (p : List ℕ) → Passes (toldAs held s c p)
+as-done held s (Sets x) p = λ l e. nothing e
+as-done held s (Loads Texture) p = loading-done (textureVerdict p) s (textureIn p)
+as-done held s (Loads Model) p = loading-done (countVerdict p) s (modelIn p)
+as-done held s (Paints d) p = λ l e. nothing e
+as-done held s Unknown p = λ l e. nothing e
+
 load-done : (held : Look) (s : Settings) (op : ℕ) (p : List ℕ) → Passes (told held s op p)
-unfolding told loadTold
-load-done held s op p =
-    either Passes (sets op) (toldOf (settingsAfter s op p)) _ (λ l e. nothing e)
-    (either Passes (loads op) _ (toldBy s (paintedBy held s op p))
-    (either Passes (eqb op 0x17) (loading (textureVerdict p) s (textureIn p)) (loading (countVerdict p) s (modelIn p)) (loading-done (textureVerdict p) s (textureIn p)) (loading-done (countVerdict p) s (modelIn p))) (λ l e. nothing e))
+load-done held s op p = rw (told-as held s op p refl) (as-done held s (commandOf op) p)
 
 -- a command without words has nothing to be kept
-abbrev Keepless : Told → Type 0
-Keepless t = t .load ≡ none
+as-empty : (held : Look) (s : Settings) (c : Command) → toldAs held s c [] .load ≡ none
+unfolding textureVerdict countVerdict
+as-empty held s (Sets x) = refl
+as-empty held s (Loads Texture) = refl
+as-empty held s (Loads Model) = refl
+as-empty held s (Paints d) = refl
+as-empty held s Unknown = refl
 
-empty-load : (held : Look) (s : Settings) (op : ℕ) → Keepless (told held s op [])
-unfolding told loadTold textureVerdict countVerdict
-empty-load held s op =
-    either Keepless (sets op) (toldOf (settingsAfter s op [])) _ refl
-    (either Keepless (loads op) _ (toldBy s (paintedBy held s op []))
-    (either Keepless (eqb op 0x17) (loading (textureVerdict []) s (textureIn [])) (loading (countVerdict []) s (modelIn [])) refl refl) refl)
+empty-load : (held : Look) (s : Settings) (op : ℕ) → told held s op [] .load ≡ none
+empty-load held s op = rw (told-as held s op [] refl) (as-empty held s (commandOf op))
 
 -- and any other verdict of an arm sets bit 3
 abbrev Third : Verdict → Type 0

@@ -14,7 +14,7 @@ use Rattle.store.specs.declared.Kind.{Kind}
 use Rattle.store.specs.declared.Kind.the-variants.{Texture}
 use Rattle.store.specs.declared.Room.the-variants.{Fits, NoWords}
 use Rattle.execute.specs.Control as control
-use Rattle.execute.specs.Commands.{Load, textureIn, told, sets, loads, loadTold, textureVerdict, paintedBy, clearPainted, flatPainted}
+use Rattle.execute.specs.Commands.{Load, textureIn, told, commandOf, textureVerdict, paintedBy, clearPainted, flatPainted}
 use Rattle.flat.specs.Words.{flatVerdict, inReach}
 use Rattle.vpu.specs.Framing.{word, header, gather, run}
 use Rattle.vpu.specs.Calls.{Small}
@@ -52,7 +52,7 @@ fits-one size e = go (ltb size 1) refl e
     go true f e = let z : _≡_ {A = ℕ} 0 1 = cc in absurd (omega arith)
 
 pub room-only : (size : Kind → ℕ) (x : ℕ) → InDomain size (stream x) → 1 ≤ size Texture
-unfolding AllFine word header gather control.execute told sets loads loadTold textureVerdict
+unfolding AllFine word header gather control.execute told commandOf textureVerdict
 room-only size x d = fits-one (size Texture) (d .1 .1 .1 .1 .1 .0 refl .fits one refl)
 
 -- ---- and there
@@ -83,7 +83,7 @@ _⨾_ : {A B : Type 0} → A → B → A × B
 a ⨾ b = (a, b)
 
 pub in-domain : (size : Kind → ℕ) (x : ℕ) → x < 4294967296 → natAbs (toZ w32 x) ≤ 8192 → 1 ≤ size Texture → InDomain size (stream x)
-unfolding AllFine word header gather control.execute told sets loads loadTold textureVerdict paintedBy clearPainted flatPainted
+unfolding AllFine word header gather control.execute told commandOf textureVerdict paintedBy clearPainted flatPainted
 in-domain size x s h t = (
   small-of (stream x) (rw (lt-ltb x 4294967296 s)),
   more 0 refl ⨾ more 4 refl ⨾ more 3 refl ⨾ more 2 refl ⨾ (λ e. record { near = λ o n. absurd (omega arith); fits = λ l f. rw (the one l f, le-ltb (size Texture) 1 t) })
@@ -107,5 +107,5 @@ not-minus-8193 size d = let h : 8193 ≤ 8192 = near-only size 0xffff_dfff d in 
 
 -- outside they differ: the original draws it and is content, and the port refuses it
 pub beyond : (size : Kind → ℕ) → (pushes new (clear ++ triangle 8193) .status ≡ 0) × (run (asPast size) plainStart (clear ++ triangle 8193) .control .status ≡ 8)
-unfolding pushes push await execute arm run word header gather control.execute told sets loads paintedBy clearPainted flatPainted flatVerdict inReach
+unfolding pushes push await execute arm run word header gather control.execute told commandOf paintedBy clearPainted flatPainted flatVerdict inReach
 beyond size = (refl, refl)

@@ -38,7 +38,7 @@ use Rattle.settings.specs.Settings as settings
 use Rattle.store.specs.Slots.{wholeOf}
 use Rattle.execute.specs.Paints as paints
 use Rattle.execute.specs.Paints.{Picture, paintOn, paintsOn}
-use Rattle.execute.specs.Commands.{told, sets, loads, loadTold, textureVerdict, paintedBy, floatsBy, texturedStroked}
+use Rattle.execute.specs.Commands.{told, commandOf, textureVerdict, paintedBy, texturedPainted}
 use Rattle.execute.specs.Control.{execute}
 use Rattle.execute.specs.Kept.{Machine}
 use Rattle.vpu.specs.Framing.{word, header, gather, run}
@@ -118,11 +118,11 @@ strokes-are w = rw checked
 
 module _ (t u : ℕ) (p : Picture) (room : 2 ≤ t) where
   once-left : (a : ℕ) → run (asPast (given t u)) (from p) (upload 1 a ++ draw) .picture ≡ paintsOn (map paints.stroked (texturedStrokes settings.fresh triangle false (some (wholeOf 1 1 1 (a ∷ []))))) p
-  unfolding run word header gather execute told sets loads loadTold textureVerdict paintedBy floatsBy texturedStroked paintsOn
+  unfolding run word header gather execute told commandOf textureVerdict paintedBy texturedPainted paintsOn
   once-left a = rw (le-ltb t 1 (omega arith))
 
   twice-left : (a b : ℕ) → run (asPast (given t u)) (from p) (upload 1 a ++ (upload 1 b ++ draw)) .picture ≡ paintsOn (map paints.stroked (texturedStrokes settings.fresh triangle false (some (wholeOf 1 1 1 (b ∷ []))))) p
-  unfolding run word header gather execute told sets loads loadTold textureVerdict paintedBy floatsBy texturedStroked paintsOn
+  unfolding run word header gather execute told commandOf textureVerdict paintedBy texturedPainted paintsOn
   twice-left a b = rw (le-ltb t 1 (omega arith), le-ltb t 2 room)
 
 -- ---- after a reset, with room for two words

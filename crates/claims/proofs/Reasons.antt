@@ -1,5 +1,6 @@
 -- Which reasons a command's checks give: what holds of "done" and of each of the first eight reasons holds of every verdict but a full store's. Assumes nothing.
 use Prim.Native.Nat.{ℕ, zero, suc, _+_}
+use mathlib.Core.Path.{refl}
 use mathlib.Core.Bool.{Bool, true, false, cond}
 use mathlib.Core.Option.{Option, none, some}
 use mathlib.Core.List.{List, [], _∷_}
@@ -10,7 +11,7 @@ use lib.ListN.{length, drop}
 use Rattle.vector.specs.declared.normal.Inverse.{Inverse}
 use Rattle.vector.specs.declared.normal.Inverse.the-variants.{Of, Singular}
 use Rattle.clip.specs.declared.vertex.ClipVertex.{ClipVertex}
-use Rattle.verdict.specs.declared.Reason.the-variants.{UnknownOpcode, OutOfRange, NotFinite, NotHeld, NotInvertible}
+use Rattle.verdict.specs.declared.Reason.the-variants.{OutOfRange, NotFinite, NotHeld, NotInvertible}
 use Rattle.verdict.specs.declared.Verdict.{Verdict}
 use Rattle.verdict.specs.declared.Verdict.the-variants.{Done, Refused}
 use Rattle.payload.specs.Words.{andThen, wordAt, floatAt, atMost, finiteFrom}
@@ -22,7 +23,15 @@ use Rattle.flat.specs.Words.{signedAt, inReach, firstOut, flatVerdict}
 use Rattle.decide.specs.Corners.{colorAt, firstOf, corner, normalMatrixOf, cornersOf}
 use Rattle.decide.specs.Verdicts.{invertibleOf, heldOf, finite4, reachedOf, eachOf, inputsOf, plainVertex, plainOf, transformedBy, transformedVerdict, texturedBy, checkedVerdict, texturedVerdict, triangleOf, recordsVerdict}
 use Rattle.draw.specs.Draws.{modelVerdict}
-use Rattle.execute.specs.Commands.{Look, Told, Painted, Stroked, wrongLength, sets, settingsAfter, loads, textureVerdict, countVerdict, loading, textureIn, modelIn, loadTold, clearPainted, flatPainted, transformedStroked, texturedStroked, modelStroked, floatsBy, asPaints, paintedBy, toldBy, toldOf, told}
+use Rattle.store.specs.declared.Kind.the-variants.{Texture, Model}
+use Rattle.execute.specs.declared.command.Setting.{Setting}
+use Rattle.execute.specs.declared.command.Setting.the-variants as setting
+use Rattle.execute.specs.declared.command.Draw.{Draw}
+use Rattle.execute.specs.declared.command.Draw.the-variants as draw
+use Rattle.execute.specs.declared.command.Command.{Command}
+use Rattle.execute.specs.declared.command.Command.the-variants.{Sets, Loads, Paints, Unknown}
+use Rattle.execute.specs.Commands.{Look, Painted, refused, unknown, wrongLength, commandOf, settingsAfter, textureVerdict, countVerdict, clearPainted, flatPainted, transformedPainted, texturedPainted, modelPainted, drawWords, drawnBy, paintedBy, toldAs, told}
+use Rattle.execute.proofs.Told.{told-as}
 
 -- what holds in both cases of a test
 either : {A : Type 0} (R : A → Type 0) (b : Bool) (x y : A) → R x → R y → R (cond b x y)
@@ -82,18 +91,17 @@ module _ (Q : Verdict → Type 0) (done : Q Done) (range : (i : ℕ) → Q (Refu
   unfolding flatVerdict
   flat-so p = out-so p (0 ∷ 1 ∷ 3 ∷ 4 ∷ 6 ∷ 7 ∷ [])
 
-  module _ (long : Q wrongLength) (unknown : Q (Refused UnknownOpcode 0)) (held : Q (Refused NotHeld 0)) where
-    -- ---- 01, 02 and 15
+  module _ (long : Q wrongLength) (no-such : Q unknown) (held : Q (Refused NotHeld 0)) where
+    -- ---- those that set
     abbrev Changes : Changed → Type 0
     Changes c = Q (c .verdict)
 
-    set-so : (s : Settings) (op : ℕ) (p : List ℕ) → Changes (settingsAfter s op p)
+    set-so : (s : Settings) (x : Setting) (p : List ℕ) → Changes (settingsAfter s x p)
     unfolding settingsAfter modeVerdict matrixVerdict lightVerdict
-    set-so s op p =
-        let wrong : Changed = changed wrongLength s s in
-        either Changes (eqb op 1) _ _ (either Changes (eqb (length p) 2) (changed (modeVerdict p) (withMode s p) s) wrong (then-so (atMost p 0 1) _ (most-so p 0 1) (most-so p 1 1)) long)
-        (either Changes (eqb op 2) _ _ (either Changes (eqb (length p) 17) (changed (matrixVerdict p) (withMatrix s p) s) wrong (then-so (atMost p 0 2) _ (most-so p 0 2) (from-so p 1 16)) long)
-        (either Changes (eqb (length p) 17) (changed (lightVerdict p) (withLight s p) s) wrong (then-so (atMost p 0 7) _ (most-so p 0 7) (then-so (atMost p 1 1) _ (most-so p 1 1) (from-so p 2 15))) long))
+    set-so s setting.Mode p = either Changes (eqb (length p) 2) (changed (modeVerdict p) (withMode s p) s) (changed wrongLength s s) (then-so (atMost p 0 1) _ (most-so p 0 1) (most-so p 1 1)) long
+    set-so s setting.Matrix p = either Changes (eqb (length p) 17) (changed (matrixVerdict p) (withMatrix s p) s) (changed wrongLength s s) (then-so (atMost p 0 2) _ (most-so p 0 2) (from-so p 1 16)) long
+    set-so s setting.Light p =
+        either Changes (eqb (length p) 17) (changed (lightVerdict p) (withLight s p) s) (changed wrongLength s s) (then-so (atMost p 0 7) _ (most-so p 0 7) (then-so (atMost p 1 1) _ (most-so p 1 1) (from-so p 2 15))) long
 
     -- ---- 17 and 1A, before room is asked
     texture-so : (p : List ℕ) → Q (textureVerdict p)
@@ -123,36 +131,28 @@ module _ (Q : Verdict → Type 0) (done : Q Done) (range : (i : ℕ) → Q (Refu
     model-so p has m none = then-so (atMost p 1 2) _ (most-so p 1 2) held
     model-so p has m (some u) = then-so (atMost p 1 2) _ (most-so p 1 2) (records-so (wordAt p 1) has m (u .wide) (u .words))
 
-    abbrev Strokes : Stroked → Type 0
-    Strokes k = Q (k .verdict)
+    abbrev Paints-so : Painted → Type 0
+    Paints-so a = Q (a .verdict)
 
-    floats-so : (look : Look) (s : Settings) (op : ℕ) (p : List ℕ) → Strokes (floatsBy look s op p)
-    unfolding floatsBy transformedStroked texturedStroked modelStroked
-    floats-so look s op p =
-        let wrong : Stroked = record { verdict = wrongLength; strokes = [] } in
-        either Strokes (eqb op 0x14) _ _ (either Strokes (eqb (length p) 12) (transformedStroked s false p) wrong (transformed-so p false (s .matrices)) long)
-        (either Strokes (eqb op 0x16) _ _ (either Strokes (eqb (length p) 21) (transformedStroked s true p) wrong (transformed-so p true (s .matrices)) long)
-        (either Strokes (eqb op 0x18) _ _ (either Strokes (eqb (length p) 20) (texturedStroked look s false p) wrong (textured-so p false _ (s .matrices)) long)
-        (either Strokes (eqb op 0x19) _ _ (either Strokes (eqb (length p) 29) (texturedStroked look s true p) wrong (textured-so p true _ (s .matrices)) long)
-        (either Strokes (eqb op 0x1b) _ (record { verdict = Refused UnknownOpcode 0; strokes = [] }) (either Strokes (eqb (length p) 2) (modelStroked look s p) wrong (model-so p _ (s .matrices) _) long) unknown))))
+    drawn-so : (look : Look) (s : Settings) (d : Draw) (p : List ℕ) → Paints-so (drawnBy look s d p)
+    unfolding clearPainted flatPainted transformedPainted texturedPainted modelPainted
+    drawn-so look s draw.Clear p = most-so p 0 3
+    drawn-so look s draw.Flat p = flat-so p
+    drawn-so look s (draw.Transformed normal) p = transformed-so p normal (s .matrices)
+    drawn-so look s (draw.Textured normal) p = textured-so p normal _ (s .matrices)
+    drawn-so look s draw.Model p = model-so p _ (s .matrices) _
 
-    abbrev Paints : Painted → Type 0
-    Paints a = Q (a .verdict)
-
-    painted-so : (look : Look) (s : Settings) (op : ℕ) (p : List ℕ) → Paints (paintedBy look s op p)
-    unfolding paintedBy clearPainted flatPainted
-    painted-so look s op p =
-        let wrong : Painted = record { verdict = wrongLength; paints = [] } in
-        either Paints (eqb op 0x04) _ _ (either Paints (eqb (length p) 3) (clearPainted p) wrong (most-so p 0 3) long)
-        (either Paints (eqb op 0x12) _ (asPaints (floatsBy look s op p)) (either Paints (eqb (length p) 11) (flatPainted p) wrong (flat-so p) long) (floats-so look s op p))
+    painted-so : (look : Look) (s : Settings) (d : Draw) (p : List ℕ) → Paints-so (paintedBy look s d p)
+    unfolding paintedBy
+    painted-so look s d p = either Paints-so (eqb (length p) (drawWords d)) (drawnBy look s d p) (refused wrongLength) (drawn-so look s d p) long
 
     -- ---- every command, before room is asked
-    abbrev Tells : Told → Type 0
-    Tells t = Q (t .verdict)
+    as-so : (look : Look) (s : Settings) (c : Command) (p : List ℕ) → Q (toldAs look s c p .verdict)
+    as-so look s (Sets x) p = set-so s x p
+    as-so look s (Loads Texture) p = texture-so p
+    as-so look s (Loads Model) p = count-so p
+    as-so look s (Paints d) p = painted-so look s d p
+    as-so look s Unknown p = no-such
 
     pub told-so : (look : Look) (s : Settings) (op : ℕ) (p : List ℕ) → Q (told look s op p .verdict)
-    unfolding told loadTold
-    told-so look s op p =
-        either Tells (sets op) (toldOf (settingsAfter s op p)) _ (set-so s op p)
-        (either Tells (loads op) _ (toldBy s (paintedBy look s op p))
-        (either Tells (eqb op 0x17) (loading (textureVerdict p) s (textureIn p)) (loading (countVerdict p) s (modelIn p)) (texture-so p) (count-so p)) (painted-so look s op p))
+    told-so look s op p = rw (told-as look s op p refl) (as-so look s (commandOf op) p)

@@ -1,6 +1,6 @@
 -- A refused command changes status only, clear flags and model draws aside; those change the picture too, and nothing else. Over any way of keeping uploads. Assumes nothing.
 use Prim.Native.Nat.{ℕ, _≤_, _<_}
-use mathlib.Core.Path.{_≡_, refl, ap}
+use mathlib.Core.Path.{_≡_, refl, ap, _∙_}
 use mathlib.Core.Bool.{Bool, true, false, cond}
 use mathlib.Core.Option.{Option, none, some}
 use mathlib.Core.List.{List, [], _∷_, map}
@@ -8,10 +8,10 @@ use native.Mathlib.Omega.{arith}
 use lib.Bits.{bitOr}
 use lib.Dec.{eqb, leb}
 use lib.ListN.{length}
-use borrow.Author.Tests.{eqb-true, eq-eqb, ne-eqb, le-leb, lt-leb}
+use borrow.Author.Tests.{le-leb, lt-leb}
 use Rattle.verdict.specs.Verdict.{numberOf, bitFor}
 use Rattle.verdict.specs.declared.Reason.{Reason}
-use Rattle.verdict.specs.declared.Reason.the-variants.{UnknownOpcode, OutOfRange, NotHeld}
+use Rattle.verdict.specs.declared.Reason.the-variants.{OutOfRange, NotHeld}
 use Rattle.verdict.specs.declared.Verdict.{Verdict}
 use Rattle.verdict.specs.declared.Verdict.the-variants.{Done, Refused}
 use Rattle.payload.specs.Words.{whenDone, andThen, wordAt, atMost}
@@ -19,6 +19,7 @@ use Rattle.settings.specs.declared.Settings.{Settings}
 use Rattle.settings.specs.declared.Changed.{Changed}
 use Rattle.settings.specs.Settings.{changed, modeVerdict, withMode, matrixVerdict, withMatrix, lightVerdict, withLight}
 use Rattle.store.specs.Uploads.{Whole, isSome}
+use Rattle.store.specs.declared.Kind.{Kind}
 use Rattle.store.specs.declared.Kind.the-variants.{Texture, Model}
 use Rattle.store.specs.declared.Room.{Room}
 use Rattle.store.specs.declared.Room.the-variants.{Fits, NoSlot, NoWords}
@@ -28,9 +29,17 @@ use Rattle.decide.specs.Verdicts.{recordsVerdict, checkedVerdict, texturedVerdi
 use Rattle.draw.specs.Draws.{transformedStrokes, heldStrokes, texturedStrokes, recordsStrokes, modelVerdict, modelStrokes, hasIn}
 use Rattle.execute.specs.Paints as paints
 use Rattle.execute.specs.Paints.{paintsOn}
-use Rattle.execute.specs.Commands.{Look, Load, Told, tells, Painted, Stroked, wrongLength, sets, settingsAfter, loads, textureVerdict, countVerdict, loading, textureIn, modelIn, loadTold, clearPaints, clearPainted, flatPainted, transformedStroked, texturedStroked, modelStroked, strokedBy, floatsBy, asPaints, paintedBy, toldBy, toldOf, told}
+use Rattle.execute.specs.declared.command.Setting.{Setting}
+use Rattle.execute.specs.declared.command.Setting.the-variants as setting
+use Rattle.execute.specs.declared.command.Draw.{Draw}
+use Rattle.execute.specs.declared.command.Draw.the-variants as draw
+use Rattle.execute.specs.declared.command.Command.{Command}
+use Rattle.execute.specs.declared.command.Command.the-variants.{Sets, Loads, Paints, Unknown}
+use Rattle.execute.specs.Commands.{Look, Load, Told, tells, Painted, refused, wrongLength, ofLength, commandOf, settingsAfter, textureVerdict, countVerdict, loading, textureIn, modelIn, clearPaints, clearPainted, flatPainted, transformedPainted, texturedPainted, modelPainted, drawWords, drawnBy, paintedBy, toldBy, toldAs, told}
 use Rattle.execute.specs.Control.{Keep, Control, Seen, roomVerdict, verdictOf, keptOf, execute, executed}
 use Rattle.execute.specs.Kept.{Box, box, asBox}
+use Rattle.execute.proofs.Told.{told-as, command-of-04, command-of-1b, clear-opcode, model-opcode}
+use Rattle.execute.proofs.Painted.{painted-whole, painted-short}
 use Rattle.claims.proofs.Status.{toldIn, verdictIn}
 
 -- refused, for whatever reason
@@ -47,45 +56,40 @@ when-refused Done a b h = absurd h
 when-refused (Refused r i) a b h = refl
 
 -- what holds in both cases of a test
-either : {A : Type 0} (R : A → Type 0) (b : Bool) (x y : A) → (b ≡ true → R x) → (b ≡ false → R y) → R (cond b x y)
-either R true x y p q = p refl
-either R false x y p q = q refl
+either : {A : Type 0} (R : A → Type 0) (b : Bool) (x y : A) → R x → R y → R (cond b x y)
+either R true x y p q = p
+either R false x y p q = q
 
--- what a refused command tells, and one that is to keep an upload: the settings as they were, nothing to paint but where opcode op may, and nothing to keep
-record Quiet (s : Settings) (op : ℕ) (t : Told) : Type 0 where
+-- what a refused command tells, and one that is to keep an upload: the settings as they were, nothing to paint but of a clear and of a model draw, and nothing to keep
+record Quiet (s : Settings) (c : Command) (t : Told) : Type 0 where
   settings : Refusal (t .verdict) → t .settings ≡ s
   nothing : Refusal (t .verdict) → t .load ≡ none
-  paints : (op ≡ 0x04 → ⊥) → (op ≡ 0x1b → ⊥) → Refusal (t .verdict) → t .paints ≡ []
+  paints : (c ≡ Paints draw.Clear → ⊥) → (c ≡ Paints draw.Model → ⊥) → Refusal (t .verdict) → t .paints ≡ []
   loading-settings : (l : Load) → t .load ≡ some l → t .settings ≡ s
   loading-paints : (l : Load) → t .load ≡ some l → t .paints ≡ []
 
 not-some : {A : Type 0} {a : A} → none ≡ some a → ⊥
 not-some e = let z : _≡_ {A = ℕ} 0 1 = cc in omega arith
 
-module _ (s : Settings) (op : ℕ) (p : List ℕ) where
-  -- ---- 01, 02 and 15 store nothing where they are refused
+module _ (s : Settings) (p : List ℕ) where
+  -- ---- what sets stores nothing where it is refused
   abbrev Changes : Changed → Type 0
   Changes c = Refusal (c .verdict) → c .settings ≡ s
 
-  changes : (v : Verdict) (new : Settings) → Changes (changed v new s)
-  changes v new h = when-refused v new s h
+  changes : (n : ℕ) (v : Verdict) (new : Settings) → Changes (ofLength n p (changed v new s) (changed wrongLength s s))
+  changes n v new = either Changes (eqb (length p) n) (changed v new s) (changed wrongLength s s) (λ h. when-refused v new s h) (λ h. refl)
 
-  set-quiet : Changes (settingsAfter s op p)
+  set-quiet : (x : Setting) → Changes (settingsAfter s x p)
   unfolding settingsAfter
-  set-quiet =
-      let wrong : Changed = changed wrongLength s s in
-      either Changes (eqb op 1) _ _ (λ a. either Changes (eqb (length p) 2) (changed (modeVerdict p) (withMode s p) s) wrong (λ b. changes (modeVerdict p) (withMode s p)) (λ b h. refl))
-      (λ a. either Changes (eqb op 2) _ _ (λ b. either Changes (eqb (length p) 17) (changed (matrixVerdict p) (withMatrix s p) s) wrong (λ d. changes (matrixVerdict p) (withMatrix s p)) (λ d h. refl))
-      (λ b. either Changes (eqb (length p) 17) (changed (lightVerdict p) (withLight s p) s) wrong (λ d. changes (lightVerdict p) (withLight s p)) (λ d h. refl)))
+  set-quiet setting.Mode = changes 2 (modeVerdict p) (withMode s p)
+  set-quiet setting.Matrix = changes 17 (matrixVerdict p) (withMatrix s p)
+  set-quiet setting.Light = changes 17 (lightVerdict p) (withLight s p)
 
-  -- ---- 17 and 1A
-  load-quiet : (v : Verdict) (l : Load) → Quiet s op (loading v s l)
-  load-quiet v l = record { settings = λ h. refl; nothing = λ h. when-refused v (some l) none h; paints = λ a b h. refl; loading-settings = λ k e. refl; loading-paints = λ k e. refl }
+  -- ---- what loads
+  load-quiet : (k : Kind) (v : Verdict) (l : Load) → Quiet s (Loads k) (loading v s l)
+  load-quiet k v l = record { settings = λ h. refl; nothing = λ h. when-refused v (some l) none h; paints = λ a b h. refl; loading-settings = λ k e. refl; loading-paints = λ k e. refl }
 
-  -- ---- the float draws
-  abbrev Strokes : Stroked → Type 0
-  Strokes k = (op ≡ 0x1b → ⊥) → Refusal (k .verdict) → k .strokes ≡ []
-
+  -- ---- what paints
   textured-none : (normal : Bool) (o : Option Whole) → Refusal (texturedVerdict p normal (isSome o) (s .matrices)) → texturedStrokes s p normal o ≡ []
   unfolding texturedVerdict texturedStrokes heldStrokes
   textured-none normal none h = refl
@@ -95,38 +99,30 @@ module _ (s : Settings) (op : ℕ) (p : List ℕ) where
       go Done h = when-refused (checkedVerdict p normal (s .matrices)) _ [] h
       go (Refused r i) h = refl
 
-  floats-quiet : (look : Look) → Strokes (floatsBy look s op p)
-  unfolding floatsBy transformedStroked texturedStroked transformedStrokes
-  floats-quiet look =
-      let wrong : Stroked = strokedBy wrongLength [] in
-      let nothing : Strokes wrong = λ a h. refl in
-      either Strokes (eqb op 0x14) _ _ (λ a. either Strokes (eqb (length p) 12) (transformedStroked s false p) wrong (λ b n h. when-refused (transformedVerdict p false (s .matrices)) _ [] h) (λ b. nothing))
-      (λ a. either Strokes (eqb op 0x16) _ _ (λ b. either Strokes (eqb (length p) 21) (transformedStroked s true p) wrong (λ d n h. when-refused (transformedVerdict p true (s .matrices)) _ [] h) (λ d. nothing))
-      (λ b. either Strokes (eqb op 0x18) _ _ (λ d. either Strokes (eqb (length p) 20) (texturedStroked look s false p) wrong (λ e n h. textured-none false _ h) (λ e. nothing))
-      (λ d. either Strokes (eqb op 0x19) _ _ (λ e. either Strokes (eqb (length p) 29) (texturedStroked look s true p) wrong (λ f n h. textured-none true _ h) (λ f. nothing))
-      (λ e. either Strokes (eqb op 0x1b) _ (strokedBy (Refused UnknownOpcode 0) []) (λ f n. absurd (n (eqb-true op 0x1b f))) (λ f n h. refl)))))
+  drawn-quiet : (look : Look) (d : Draw) → (Paints d ≡ Paints draw.Clear → ⊥) → (Paints d ≡ Paints draw.Model → ⊥) → Refusal (drawnBy look s d p .verdict) → drawnBy look s d p .paints ≡ []
+  unfolding flatPainted transformedPainted texturedPainted transformedStrokes
+  drawn-quiet look draw.Clear n m h = absurd (n refl)
+  drawn-quiet look draw.Flat n m h = when-refused (flatVerdict p) (paints.flat (triOf p) ∷ []) [] h
+  drawn-quiet look (draw.Transformed normal) n m h = ap (map paints.stroked) (when-refused (transformedVerdict p normal (s .matrices)) _ [] h)
+  drawn-quiet look (draw.Textured normal) n m h = ap (map paints.stroked) (textured-none normal _ h)
+  drawn-quiet look draw.Model n m h = absurd (m refl)
 
-  -- ---- every draw, and the clear
-  abbrev Paints : Painted → Type 0
-  Paints a = (op ≡ 0x04 → ⊥) → (op ≡ 0x1b → ⊥) → Refusal (a .verdict) → a .paints ≡ []
+  abbrev Blank : Painted → Type 0
+  Blank a = Refusal (a .verdict) → a .paints ≡ []
 
-  painted-quiet : (look : Look) → Paints (paintedBy look s op p)
-  unfolding paintedBy flatPainted
-  painted-quiet look =
-      let wrong : Painted = record { verdict = wrongLength; paints = [] } in
-      either Paints (eqb op 0x04) _ _ (λ a n. absurd (n (eqb-true op 0x04 a)))
-      (λ a. either Paints (eqb op 0x12) _ (asPaints (floatsBy look s op p))
-      (λ b. either Paints (eqb (length p) 11) (flatPainted p) wrong (λ d n m h. when-refused (flatVerdict p) (paints.flat (triOf p) ∷ []) [] h) (λ d n m h. refl))
-      (λ b n m h. ap (map paints.stroked) (floats-quiet look m h)))
+  painted-quiet : (look : Look) (d : Draw) → (Paints d ≡ Paints draw.Clear → ⊥) → (Paints d ≡ Paints draw.Model → ⊥) → Blank (paintedBy look s d p)
+  unfolding paintedBy
+  painted-quiet look d n m = either Blank (eqb (length p) (drawWords d)) (drawnBy look s d p) (refused wrongLength) (drawn-quiet look d n m) (λ h. refl)
 
-  told-quiet : (look : Look) → Quiet s op (told look s op p)
-  unfolding told loadTold
-  told-quiet look =
-      either (Quiet s op) (sets op) (toldOf (settingsAfter s op p)) _
-      (λ a. record { settings = set-quiet; nothing = λ h. refl; paints = λ n m h. refl; loading-settings = λ l e. absurd (not-some e); loading-paints = λ l e. refl })
-      (λ a. either (Quiet s op) (loads op) _ (toldBy s (paintedBy look s op p))
-      (λ b. either (Quiet s op) (eqb op 0x17) (loading (textureVerdict p) s (textureIn p)) (loading (countVerdict p) s (modelIn p)) (λ d. load-quiet (textureVerdict p) (textureIn p)) (λ d. load-quiet (countVerdict p) (modelIn p)))
-      (λ b. record { settings = λ h. refl; nothing = λ h. refl; paints = painted-quiet look; loading-settings = λ l e. refl; loading-paints = λ l e. absurd (not-some e) }))
+  as-quiet : (look : Look) (c : Command) → Quiet s c (toldAs look s c p)
+  as-quiet look (Sets x) = record { settings = set-quiet x; nothing = λ h. refl; paints = λ n m h. refl; loading-settings = λ l e. absurd (not-some e); loading-paints = λ l e. refl }
+  as-quiet look (Loads Texture) = load-quiet Texture (textureVerdict p) (textureIn p)
+  as-quiet look (Loads Model) = load-quiet Model (countVerdict p) (modelIn p)
+  as-quiet look (Paints d) = record { settings = λ h. refl; nothing = λ h. refl; paints = painted-quiet look d; loading-settings = λ l e. refl; loading-paints = λ l e. absurd (not-some e) }
+  as-quiet look Unknown = record { settings = λ h. refl; nothing = λ h. refl; paints = λ n m h. refl; loading-settings = λ l e. refl; loading-paints = λ l e. refl }
+
+  told-quiet : (look : Look) (op : ℕ) → Quiet s (commandOf op) (told look s op p)
+  told-quiet look op = rw (told-as look s op p refl) (as-quiet look (commandOf op))
 
 -- ---- every refused command, "no room" too
 -- what a refused command leaves: settings and uploads as they were, no command begun, and the bit of its reason
@@ -145,11 +141,11 @@ module _ {X : Type 0} (K : Keep X) (c : Control X) (r : Reason) (i : ℕ) (e : v
 
   parts : (o : Option Load) → toldIn K c .load ≡ o → verdictOf K (c .box) (toldIn K c) o ≡ Refused r i → Parts o
   parts none a b =
-      let q = told-quiet (c .settings) (c .opcode) (K .payload (c .box)) (K .look (c .box)) in
+      let q = told-quiet (c .settings) (K .payload (c .box)) (K .look (c .box)) (c .opcode) in
       let h = refusal (toldIn K c .verdict) b in
-      record { same = q .settings h; held = refl; blank = λ n m. q .paints n m h }
+      record { same = q .settings h; held = refl; blank = λ n m. q .paints (λ f. n (clear-opcode (c .opcode) f)) (λ f. m (model-opcode (c .opcode) f)) h }
   parts (some l) a b =
-      let q = told-quiet (c .settings) (c .opcode) (K .payload (c .box)) (K .look (c .box)) in
+      let q = told-quiet (c .settings) (K .payload (c .box)) (K .look (c .box)) (c .opcode) in
       record { same = q .loading-settings l a; held = room (K .room (c .box) l) (refusal _ b); blank = λ n m. q .loading-paints l a }
     where
       room : (x : Room) → Refusal (roomVerdict x) → cond (isFits x) (K .put (c .box) l) (c .box) ≡ c .box
@@ -182,37 +178,41 @@ refused-stores c r i e = refused-leaves asBox c r i e .uploads
 -- ---- the two that paint though refused, exactly
 -- 04: "flags beyond 3 still do so, then set bit 3"; of a wrong length nothing is cleared
 pub clear-exact : (look : Look) (s : Settings) (p : List ℕ) → length p ≡ 3 → told look s 0x04 p ≡ tells (cond (leb (wordAt p 0) 3) Done (Refused OutOfRange 0)) s (clearPaints p)
-unfolding told sets loads paintedBy clearPainted
-clear-exact look s p n = rw (eq-eqb (length p) 3 n)
+unfolding clearPainted
+clear-exact look s p n = told-as look s 0x04 p command-of-04 ∙ ap (toldBy s) (painted-whole look s draw.Clear p n)
 
 pub clear-short : (look : Look) (s : Settings) (p : List ℕ) → (length p ≡ 3 → ⊥) → told look s 0x04 p ≡ tells wrongLength s []
-unfolding told sets loads paintedBy
-clear-short look s p n = rw (ne-eqb (length p) 3 n)
+clear-short look s p n = told-as look s 0x04 p command-of-04 ∙ ap (toldBy s) (painted-short look s draw.Clear p n)
 
 -- 1B: of a wrong length, with a mode above 2 or without its model nothing is drawn; else its triangles that are not refused are
 module _ (look : Look) (s : Settings) (p : List ℕ) where
   pub model-short : (length p ≡ 2 → ⊥) → told look s 0x1b p ≡ tells wrongLength s []
-  unfolding told sets loads paintedBy floatsBy
-  model-short n = rw (ne-eqb (length p) 2 n)
+  model-short n = told-as look s 0x1b p command-of-1b ∙ ap (toldBy s) (painted-short look s draw.Model p n)
 
-  mode-refused : 2 < wordAt p 1 → (o : Option Whole)
-      → tells (modelVerdict p (hasIn (look Texture)) (s .matrices) o) s (map paints.stroked (modelStrokes s p (look Texture) o)) ≡ tells (Refused OutOfRange 1) s []
+  -- what it tells, by the model that is held under its number
+  abbrev by-model : Option Whole → Told
+  by-model o = tells (modelVerdict p (hasIn (look Texture)) (s .matrices) o) s (map paints.stroked (modelStrokes s p (look Texture) o))
+
+  mode-refused : 2 < wordAt p 1 → (o : Option Whole) → by-model o ≡ tells (Refused OutOfRange 1) s []
   unfolding modelVerdict modelStrokes
   mode-refused h none = rw (lt-leb (wordAt p 1) 2 h)
   mode-refused h (some u) = rw (lt-leb (wordAt p 1) 2 h)
 
   module _ (n : length p ≡ 2) where
+    model-told : told look s 0x1b p ≡ by-model (look Model (wordAt p 0))
+    unfolding modelPainted
+    model-told = told-as look s 0x1b p command-of-1b ∙ ap (toldBy s) (painted-whole look s draw.Model p n)
+
     pub model-mode : 2 < wordAt p 1 → told look s 0x1b p ≡ tells (Refused OutOfRange 1) s []
-    unfolding told sets loads paintedBy floatsBy modelStroked
-    model-mode h = rw (eq-eqb (length p) 2 n) (mode-refused h (look Model (wordAt p 0)))
+    model-mode h = model-told ∙ mode-refused h (look Model (wordAt p 0))
 
     pub model-none : wordAt p 1 ≤ 2 → look Model (wordAt p 0) ≡ none → told look s 0x1b p ≡ tells (Refused NotHeld 0) s []
-    unfolding told sets loads paintedBy floatsBy modelStroked modelVerdict modelStrokes
-    model-none h e = rw (eq-eqb (length p) 2 n, e, le-leb (wordAt p 1) 2 h)
+    unfolding modelVerdict modelStrokes
+    model-none h e = model-told ∙ rw (e, le-leb (wordAt p 1) 2 h)
 
     pub model-exact : (u : Whole) → wordAt p 1 ≤ 2 → look Model (wordAt p 0) ≡ some u
         → told look s 0x1b p
         ≡ tells (recordsVerdict (wordAt p 1) (hasIn (look Texture)) (s .matrices) (u .wide) (u .words)) s
         (map paints.stroked (recordsStrokes s (wordAt p 1) (look Texture) (u .wide) (u .words)))
-    unfolding told sets loads paintedBy floatsBy modelStroked modelVerdict modelStrokes
-    model-exact u h e = rw (eq-eqb (length p) 2 n, e, le-leb (wordAt p 1) 2 h)
+    unfolding modelVerdict modelStrokes
+    model-exact u h e = model-told ∙ rw (e, le-leb (wordAt p 1) 2 h)

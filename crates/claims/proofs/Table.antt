@@ -38,7 +38,7 @@ use Rattle.flat.proofs.Cases as cases
 use Rattle.flat.proofs.Cases.{corner, six, byte-after}
 use Rattle.execute.specs.Paints as paints
 use Rattle.execute.specs.Paints.{Picture, picture, paintOn, paintsOn}
-use Rattle.execute.specs.Commands.{told, sets, loads, loadTold, textureVerdict, paintedBy, clearPainted, clearPaints, flatPainted, rgbaOf}
+use Rattle.execute.specs.Commands.{told, commandOf, textureVerdict, paintedBy, clearPainted, clearPaints, flatPainted, rgbaOf}
 use Rattle.execute.specs.Control.{Seen, execute}
 use Rattle.execute.specs.Kept.{Shelf, box, Machine, asBox}
 use Rattle.vpu.specs.Framing.{word, header, gather, run}
@@ -115,7 +115,7 @@ module _ (t u : ℕ) (p : Picture) where
   zero-opcode = record { status-is = refl; opcode-none = refl; payload-none = refl; wanted-none = refl }
 
   no-payload : Idle (left (0x0400_0000 ∷ [])) 8
-  unfolding run word header execute told sets loads paintedBy
+  unfolding run word header execute told commandOf paintedBy
   no-payload = record { status-is = refl; opcode-none = refl; payload-none = refl; wanted-none = refl }
 
   too-many : Idle (left (0x0408_0004 ∷ [])) 8
@@ -128,11 +128,11 @@ module _ (t u : ℕ) (p : Picture) where
 
   -- ---- 6, 7, 8 and 10: flat triangles
   flat-left : (z0 z1 z2 : ℕ) → left (table.flat z0 z1 z2) .picture ≡ paintOn (paints.flat (triOf (corner z0 z1 z2))) p
-  unfolding run word header gather execute told sets loads paintedBy flatPainted flatVerdict inReach paintsOn
+  unfolding run word header gather execute told commandOf paintedBy flatPainted flatVerdict inReach paintsOn
   flat-left z0 z1 z2 = refl
 
   utmost-left : left (0x1200_000b ∷ utmost) .control .status ≡ 0
-  unfolding run word header gather execute told sets loads paintedBy flatPainted flatVerdict inReach
+  unfolding run word header gather execute told commandOf paintedBy flatPainted flatVerdict inReach
   utmost-left = refl
 
   -- one coordinate beyond, on either side
@@ -140,26 +140,26 @@ module _ (t u : ℕ) (p : Picture) where
   Out k = (left (0x1200_000b ∷ set utmost k 8193) .control .status ≡ 8) × (left (0x1200_000b ∷ set utmost k 4294959103) .control .status ≡ 8)
 
   beyond-left : Out 0 × Out 1 × Out 3 × Out 4 × Out 6 × Out 7
-  unfolding run word header gather execute told sets loads paintedBy flatPainted flatVerdict inReach
+  unfolding run word header gather execute told commandOf paintedBy flatPainted flatVerdict inReach
   beyond-left = ((refl, refl), (refl, refl), (refl, refl), (refl, refl), (refl, refl), (refl, refl))
 
   -- ---- 3: clears that are refused
   clear-left : (rgba v : ℕ) → (left (table.clear 4 rgba v) .control .status ≡ 8) × (left (table.clear 7 rgba v) .control .status ≡ 8)
-  unfolding run word header gather execute told sets loads paintedBy clearPainted
+  unfolding run word header gather execute told commandOf paintedBy clearPainted
   clear-left rgba v = (refl, refl)
 
   -- ---- 11 and 12: textures
   one-left : (n : ℕ) → 1 ≤ t → (left (0x1700_0004 ∷ n ∷ 1 ∷ 1 ∷ 0xf0a5_1234 ∷ []) .control .status ≡ 0) × (left (0x1700_0004 ∷ n ∷ 1 ∷ 1 ∷ 0xf0a5_1234 ∷ []) .control .box .textures ≡ wholeOf n 1 1 (0xf0a5_1234 ∷ []) ∷ [])
-  unfolding run word header gather execute told sets loads loadTold textureVerdict
+  unfolding run word header gather execute told commandOf textureVerdict
   one-left n h = rw (le-ltb t 1 h) (refl, refl)
 
 three-four : (u : ℕ) (p : Picture)
     → (run (asPast (given 4 u)) (from p) three .control .status ≡ 64) × (live (run (asPast (given 4 u)) (from p) three .control .box .textures) ≡ wholeOf 1 2 2 (11 ∷ 12 ∷ []) ∷ wholeOf 2 2 2 (21 ∷ 22 ∷ []) ∷ [])
-unfolding run word header gather execute told sets loads loadTold textureVerdict
+unfolding run word header gather execute told commandOf textureVerdict
 three-four u p = (refl, refl)
 
 three-six : (u : ℕ) (p : Picture) → (run (asPast (given 6 u)) (from p) three .control .status ≡ 0) × (live (run (asPast (given 6 u)) (from p) three .control .box .textures) ≡ wholeOf 2 2 2 (21 ∷ 22 ∷ []) ∷ wholeOf 1 2 2 (31 ∷ 32 ∷ []) ∷ [])
-unfolding run word header gather execute told sets loads loadTold textureVerdict
+unfolding run word header gather execute told commandOf textureVerdict
 three-six u p = (refl, refl)
 
 -- what a store of t words shows, where t is n
@@ -189,7 +189,7 @@ module _ (s : Settings) (st : ℕ) (t m : Shelf) (C : List ℕ) (p : Picture) wh
   waiting = record { control = record { settings = s; status = st; opcode = 0; wanted = 0; box = box t m C 0 }; picture = p }
 
   clear-run : 3 ≤ length C → (a b c : ℕ) → Cleared a b c waiting (run asBox waiting (table.clear a b c))
-  unfolding run word header gather execute told sets loads paintedBy clearPainted paintsOn
+  unfolding run word header gather execute told commandOf paintedBy clearPainted paintsOn
   clear-run h a b c = record { status = rw (three-words C a b c h); picture = rw (three-words C a b c h) }
 
 is-waiting : (m : Machine) → m .control .opcode ≡ 0 → m .control .box .gathered ≡ 0 → m .control .wanted ≡ 0

@@ -27,7 +27,11 @@ use Rattle.store.proofs.Walk.{length-slotsOf}
 use Rattle.store.proofs.Held.{Sized, ok-formed, ok-rep, view-told, length-after}
 use Rattle.store.proofs.Kept.{upload-ok}
 use Rattle.state.specs.State.{mostPayload}
-use Rattle.execute.specs.Commands.{Look, Load, Told, ofLength, sets, settingsAfter, loads, textureIn, modelIn, textureVerdict, countVerdict, loading, loadTold, paintedBy, toldBy, toldOf, told}
+use Rattle.execute.specs.declared.command.Setting.{Setting}
+use Rattle.execute.specs.declared.command.Setting.the-variants as setting
+use Rattle.execute.specs.declared.command.Command.{Command}
+use Rattle.execute.specs.declared.command.Command.the-variants.{Sets, Loads, Paints, Unknown}
+use Rattle.execute.specs.Commands.{Look, Load, commandOf, ofLength, settingsAfter, textureIn, modelIn, textureVerdict, countVerdict, loadTold, toldAs, told}
 use Rattle.execute.specs.Control.{Control, keptOf, execute}
 use Rattle.execute.specs.Kept.{Shelf, Formed, Box, roomOn, putOn, shelfOf, putBox, asBox}
 use Rattle.execute.proofs.Laws.{texture-passes, count-passes}
@@ -45,29 +49,30 @@ of-length P n p x y a b = go (eqb (length p) n) refl
     go false e = b
 
 -- ---- the settings
--- what holds of them before a command, and after 01, 02 and 15, holds after every command
+-- what holds of them before a command, and after those that set, holds after every command
 module _ (P : Settings → Type 0) (s : Settings) (p : List ℕ) (old : P s)
     (mode : P (changed (modeVerdict p) (withMode s p) s .settings))
     (matrix : length p ≡ 17 → P (changed (matrixVerdict p) (withMatrix s p) s .settings))
-    (light : P (changed (lightVerdict p) (withLight s p) s .settings))
-    (op : ℕ) where
+    (light : P (changed (lightVerdict p) (withLight s p) s .settings)) where
   abbrev After : Changed → Type 0
   After r = P (r .settings)
 
-  set-keeps : After (settingsAfter s op p)
+  set-keeps : (x : Setting) → After (settingsAfter s x p)
   unfolding settingsAfter
-  set-keeps =
-      either After (eqb op 1) _ _ (of-length After 2 p _ _ (λ n. mode) old)
-      (either After (eqb op 2) _ _ (of-length After 17 p _ _ matrix old) (of-length After 17 p _ _ (λ n. light) old))
+  set-keeps setting.Mode = of-length After 2 p _ _ (λ n. mode) old
+  set-keeps setting.Matrix = of-length After 17 p _ _ matrix old
+  set-keeps setting.Light = of-length After 17 p _ _ (λ n. light) old
 
-  abbrev Tells : Told → Type 0
-  Tells t = P (t .settings)
+  as-keeps : (look : Look) (c : Command) → P (toldAs look s c p .settings)
+  as-keeps look (Sets x) = set-keeps x
+  as-keeps look (Loads Texture) = old
+  as-keeps look (Loads Model) = old
+  as-keeps look (Paints d) = old
+  as-keeps look Unknown = old
 
-  settings-keep : (look : Look) → Tells (told look s op p)
-  unfolding told loadTold
-  settings-keep look =
-      either Tells (sets op) _ _ set-keeps
-      (either Tells (loads op) _ _ (either Tells (eqb op 0x17) (loading (textureVerdict p) s (textureIn p)) (loading (countVerdict p) s (modelIn p)) old old) old)
+  settings-keep : (op : ℕ) (look : Look) → P (told look s op p .settings)
+  unfolding told
+  settings-keep op look = as-keeps look (commandOf op)
 
 -- ---- what is to be kept passed its checks
 abbrev pub Passed : Option Load → Type 0
@@ -78,29 +83,31 @@ when-passed : (v : Verdict) (l : Load) → (v ≡ Done → Passed (some l)) → 
 when-passed Done l h = h refl
 when-passed (Refused reason index) l h = tt
 
-module _ (s : Settings) (p : List ℕ) (most : length p ≤ mostPayload) (op : ℕ) where
-  abbrev pub Loads : Told → Type 0
-  Loads t = Passed (t .load)
-
-  texture-passed : Loads (loading (textureVerdict p) s (textureIn p))
+module _ (s : Settings) (p : List ℕ) (most : length p ≤ mostPayload) where
+  texture-passed : Passed (loadTold s Texture p .load)
   texture-passed =
       when-passed (textureVerdict p) (textureIn p)
       (λ e.
       let q = texture-passes p e in
       record { sides = q .sides; size = q .size })
 
-  model-passed : Loads (loading (countVerdict p) s (modelIn p))
+  model-passed : Passed (loadTold s Model p .load)
   model-passed =
       when-passed (countVerdict p) (modelIn p)
       (λ e.
       let q = count-passes p most e in
       record { sides = q .sides; size = q .size })
 
-  pub load-passed : (look : Look) → Loads (told look s op p)
-  unfolding told loadTold
-  load-passed look =
-      either Loads (sets op) (toldOf (settingsAfter s op p)) _ tt
-      (either Loads (loads op) _ (toldBy s (paintedBy look s op p)) (either Loads (eqb op 0x17) _ _ texture-passed model-passed) tt)
+  as-passed : (look : Look) (c : Command) → Passed (toldAs look s c p .load)
+  as-passed look (Sets x) = tt
+  as-passed look (Loads Texture) = texture-passed
+  as-passed look (Loads Model) = model-passed
+  as-passed look (Paints d) = tt
+  as-passed look Unknown = tt
+
+  pub load-passed : (op : ℕ) (look : Look) → Passed (told look s op p .load)
+  unfolding told
+  load-passed op look = as-passed look (commandOf op)
 
 -- ---- one store: 64 slots, and n words for which they are well formed
 pub record Sound (k : Kind) (s : Shelf) (n : ℕ) : Type 0 where

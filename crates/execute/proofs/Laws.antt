@@ -20,8 +20,7 @@ use Rattle.verdict.specs.declared.Verdict.{Verdict}
 use Rattle.verdict.specs.declared.Verdict.the-variants.{Done, Refused}
 use Rattle.payload.specs.Words.{wordAt, atMost}
 use Rattle.settings.specs.declared.Settings.{Settings}
-use Rattle.settings.specs.declared.Changed.{Changed}
-use Rattle.settings.specs.Settings.{changed, modeVerdict, withMode, matrixVerdict, withMatrix, lightVerdict, withLight}
+use Rattle.settings.specs.Settings.{changed}
 use Rattle.store.specs.declared.Kind.{Kind}
 use Rattle.store.specs.declared.Kind.the-variants.{Texture, Model}
 use Rattle.store.specs.declared.Slot.{Slot}
@@ -29,37 +28,25 @@ use Rattle.store.specs.declared.Stored.{Stored}
 use Rattle.store.specs.Uploads.{Whole}
 use Rattle.store.specs.Slots.{areaOf, sidesOk, isFits, Uploaded}
 use Rattle.state.specs.State.{mostPayload}
+use Rattle.execute.specs.declared.command.Setting.{Setting}
 use Rattle.execute.specs.Paints.{picture, paintOn, paintsOn}
-use Rattle.execute.specs.Commands.{Load, wrongLength, ofLength, settingsAfter, textureVerdict, countVerdict, rgbaOf, clearPaints, clearPainted}
+use Rattle.execute.specs.Commands.{Load, wrongLength, ofLength, settingWords, setBy, settingsAfter, textureVerdict, countVerdict, rgbaOf, clearPaints, clearPainted}
 use Rattle.execute.specs.Control.{roomVerdict}
 use Rattle.execute.specs.Kept.{Shelf, shelf, shelved, roomOn, putOn, keptOn, loadedOn}
 
--- ---- 01, 02 and 15
-module _ (s : Settings) (p : List ℕ) (op : ℕ) where
-  pub mode-set : op ≡ 1 → length p ≡ 2 → settingsAfter s op p ≡ changed (modeVerdict p) (withMode s p) s
+-- ---- those that set
+module _ (s : Settings) (x : Setting) (p : List ℕ) where
+  set-whole : length p ≡ settingWords x → settingsAfter s x p ≡ setBy s x p
   unfolding settingsAfter
-  mode-set a n = rw (eq-eqb op 1 a, eq-eqb (length p) 2 n)
+  set-whole n = rw (eq-eqb (length p) (settingWords x) n)
 
-  pub mode-wrong : op ≡ 1 → (length p ≡ 2 → ⊥) → settingsAfter s op p ≡ changed wrongLength s s
+  -- where x is y
+  pub set-as : length p ≡ settingWords x → (y : Setting) → x ≡ y → settingsAfter s x p ≡ setBy s y p
+  set-as n y e = set-whole n ∙ ap (λ (z : Setting). setBy s z p) e
+
+  pub set-wrong : (length p ≡ settingWords x → ⊥) → settingsAfter s x p ≡ changed wrongLength s s
   unfolding settingsAfter
-  mode-wrong a n = rw (eq-eqb op 1 a, ne-eqb (length p) 2 n)
-
-  module _ (a : op ≡ 1 → ⊥) where
-    both-wrong : (b : Bool) (x : Changed) → cond b x x ≡ x
-    both-wrong true x = refl
-    both-wrong false x = refl
-
-    pub others-wrong : (length p ≡ 17 → ⊥) → settingsAfter s op p ≡ changed wrongLength s s
-    unfolding settingsAfter
-    others-wrong n = rw (ne-eqb op 1 a, ne-eqb (length p) 17 n) (both-wrong (eqb op 2) (changed wrongLength s s))
-
-    pub matrix-set : op ≡ 2 → length p ≡ 17 → settingsAfter s op p ≡ changed (matrixVerdict p) (withMatrix s p) s
-    unfolding settingsAfter
-    matrix-set b n = rw (ne-eqb op 1 a, eq-eqb op 2 b, eq-eqb (length p) 17 n)
-
-    pub light-set : (op ≡ 2 → ⊥) → length p ≡ 17 → settingsAfter s op p ≡ changed (lightVerdict p) (withLight s p) s
-    unfolding settingsAfter
-    light-set b n = rw (ne-eqb op 1 a, ne-eqb op 2 b, eq-eqb (length p) 17 n)
+  set-wrong n = rw (ne-eqb (length p) (settingWords x) n)
 
 -- ---- 17: each refusal, and what is left behind them
 pub texture-short : (p : List ℕ) → length p < 3 → textureVerdict p ≡ wrongLength

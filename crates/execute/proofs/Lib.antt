@@ -1,4 +1,5 @@
 pub mod Laws
+pub mod Told
 pub mod Formed
 pub mod Painted
 pub mod Executed

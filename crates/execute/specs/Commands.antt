@@ -1,9 +1,9 @@
--- The commands: what a payload tells, by its opcode. Document 01, "Commands"; document 000, `execute`. No definition here sees the picture. Definitions only.
-use Prim.Native.Nat.{ℕ, _+_, _*_, _/_, _%_}
-use mathlib.Core.Bool.{Bool, true, false, cond, _||_}
+-- The commands: what an opcode is, and what a payload tells. Document 01, "Commands"; document 000, `execute`. No definition here sees the picture. Definitions only.
+use Prim.Native.Nat.{ℕ, _+_, _/_, _%_}
+use mathlib.Core.Bool.{Bool, true, false, cond}
 use mathlib.Core.Option.{Option, none, some}
 use mathlib.Core.List.{List, [], _∷_, _++_, map}
-use lib.Dec.{eqb, leb, ltb}
+use lib.Dec.{eqb, ltb}
 use lib.ListN.{length, drop}
 use Rattle.screen.specs.declared.plane.Rgba.{Rgba}
 use Rattle.settings.specs.declared.Settings.{Settings}
@@ -21,7 +21,31 @@ use Rattle.flat.specs.Words.{flatVerdict, triOf}
 use Rattle.stroke.specs.Strokes.{Stroke}
 use Rattle.decide.specs.Verdicts.{transformedVerdict, texturedVerdict}
 use Rattle.draw.specs.Draws.{transformedStrokes, texturedStrokes, modelVerdict, modelStrokes, hasIn}
+use Rattle.execute.specs.declared.command.Setting.{Setting}
+use Rattle.execute.specs.declared.command.Setting.the-variants as setting
+use Rattle.execute.specs.declared.command.Draw.{Draw}
+use Rattle.execute.specs.declared.command.Draw.the-variants as draw
+use Rattle.execute.specs.declared.command.Command.{Command}
+use Rattle.execute.specs.declared.command.Command.the-variants.{Sets, Loads, Paints, Unknown}
 use Rattle.execute.specs.Paints.{Paint, fill, far, flat, stroked}
+
+-- ---- what an opcode is: no other definition of the machine tells commands apart by it. "04 .. flags", "01 .. shading mode .. lighting", "02 .. matrix", "15 .. light", "12 .. flat triangle",
+-- "14 .. and 16 .. transformed, without and with normals", "17 .. texture number", "18 .. and 19 .. textured, plain and lit", "1A .. model number, n", "1B .. model number, mode"; "Anything else" is unknown
+unfoldable pub commandOf : ℕ → Command
+commandOf op =
+    cond (eqb op 0x01) (Sets setting.Mode)
+    (cond (eqb op 0x02) (Sets setting.Matrix)
+    (cond (eqb op 0x04) (Paints draw.Clear)
+    (cond (eqb op 0x12) (Paints draw.Flat)
+    (cond (eqb op 0x14) (Paints (draw.Transformed false))
+    (cond (eqb op 0x15) (Sets setting.Light)
+    (cond (eqb op 0x16) (Paints (draw.Transformed true))
+    (cond (eqb op 0x17) (Loads Texture)
+    (cond (eqb op 0x18) (Paints (draw.Textured false))
+    (cond (eqb op 0x19) (Paints (draw.Textured true))
+    (cond (eqb op 0x1a) (Loads Model)
+    (cond (eqb op 0x1b) (Paints draw.Model)
+    Unknown)))))))))))
 
 -- what a draw may ask: the upload of a kind that is held under a number, if one is
 abbrev pub Look : Type 0
@@ -42,7 +66,10 @@ pub record Told : Type 0 where
 abbrev pub tells : Verdict → Settings → List Paint → Told
 tells v s ps = record { verdict = v; settings = s; paints = ps; load = none }
 
--- "4 wrong length"
+-- "3 unknown opcode"; "4 wrong length"
+abbrev pub unknown : Verdict
+unknown = Refused UnknownOpcode 0
+
 abbrev pub wrongLength : Verdict
 wrongLength = Refused WrongLength 0
 
@@ -50,21 +77,21 @@ wrongLength = Refused WrongLength 0
 abbrev pub ofLength : {A : Type 0} → ℕ → List ℕ → A → A → A
 ofLength n p a b = cond (eqb (length p) n) a b
 
--- ---- 01, 02 and 15 set
-unfoldable pub sets : ℕ → Bool
-sets op = eqb op 0x01 || (eqb op 0x02 || eqb op 0x15)
+-- ---- those that set: "01, 2 words: (0, 0..1) shading mode; (1, 0..1) lighting. 02, 17 words: matrix 0..2 and 16 floats. 15, 17 words: light 0..7, switch 0..1, 15 floats"
+abbrev pub settingWords : Setting → ℕ
+settingWords setting.Mode = 2
+settingWords setting.Matrix = 17
+settingWords setting.Light = 17
 
-unfoldable pub settingsAfter : Settings → ℕ → List ℕ → Changed
-settingsAfter s op p =
-    let wrong : Changed = changed wrongLength s s in
-    cond (eqb op 0x01) (ofLength 2 p (changed (modeVerdict p) (withMode s p) s) wrong)
-    (cond (eqb op 0x02) (ofLength 17 p (changed (matrixVerdict p) (withMatrix s p) s) wrong)
-    (ofLength 17 p (changed (lightVerdict p) (withLight s p) s) wrong))
+abbrev pub setBy : Settings → Setting → List ℕ → Changed
+setBy s setting.Mode p = changed (modeVerdict p) (withMode s p) s
+setBy s setting.Matrix p = changed (matrixVerdict p) (withMatrix s p) s
+setBy s setting.Light p = changed (lightVerdict p) (withLight s p) s
 
--- ---- 17 and 1A load
-unfoldable pub loads : ℕ → Bool
-loads op = eqb op 0x17 || eqb op 0x1a
+unfoldable pub settingsAfter : Settings → Setting → List ℕ → Changed
+settingsAfter s x p = ofLength (settingWords x) p (setBy s x p) (changed wrongLength s s)
 
+-- ---- those that load
 -- "17 tests the least length, then width 0, height 0, width above 1024, height above 1024, then the exact length"
 unfoldable pub textureVerdict : List ℕ → Verdict
 textureVerdict p =
@@ -93,10 +120,11 @@ modelIn p = record { kind = Model; whole = wholeOf (wordAt p 0) (wordAt p 1) 0 (
 abbrev pub loading : Verdict → Settings → Load → Told
 loading v s l = record { verdict = v; settings = s; paints = []; load = whenDone v (some l) none }
 
-unfoldable pub loadTold : Settings → ℕ → List ℕ → Told
-loadTold s op p = cond (eqb op 0x17) (loading (textureVerdict p) s (textureIn p)) (loading (countVerdict p) s (modelIn p))
+abbrev pub loadTold : Settings → Kind → List ℕ → Told
+loadTold s Texture p = loading (textureVerdict p) s (textureIn p)
+loadTold s Model p = loading (countVerdict p) s (modelIn p)
 
--- ---- the others paint, or are unknown: a verdict, and paints
+-- ---- those that paint: a verdict, and paints
 pub record Painted : Type 0 where
   pub verdict : Verdict
   pub paints : List Paint
@@ -125,44 +153,39 @@ clearPainted p = painted (atMost p 0 3) (clearPaints p)
 unfoldable pub flatPainted : List ℕ → Painted
 flatPainted p = painted (flatVerdict p) (whenDone (flatVerdict p) (flat (triOf p) ∷ []) [])
 
--- the float draws: a verdict, and strokes
-pub record Stroked : Type 0 where
-  pub verdict : Verdict
-  pub strokes : List Stroke
-
-abbrev pub strokedBy : Verdict → List Stroke → Stroked
-strokedBy v ks = record { verdict = v; strokes = ks }
+-- the float draws, by their strokes
+abbrev pub strokedBy : Verdict → List Stroke → Painted
+strokedBy v ks = painted v (map stroked ks)
 
 -- 14 and 16; 18 and 19; 1B
-unfoldable pub transformedStroked : Settings → Bool → List ℕ → Stroked
-transformedStroked s normal p = strokedBy (transformedVerdict p normal (s .matrices)) (transformedStrokes s p normal)
+unfoldable pub transformedPainted : Settings → Bool → List ℕ → Painted
+transformedPainted s normal p = strokedBy (transformedVerdict p normal (s .matrices)) (transformedStrokes s p normal)
 
-unfoldable pub texturedStroked : Look → Settings → Bool → List ℕ → Stroked
-texturedStroked look s normal p =
+unfoldable pub texturedPainted : Look → Settings → Bool → List ℕ → Painted
+texturedPainted look s normal p =
     strokedBy (texturedVerdict p normal (hasIn (look Texture) (wordAt p 0)) (s .matrices)) (texturedStrokes s p normal (look Texture (wordAt p 0)))
 
-unfoldable pub modelStroked : Look → Settings → List ℕ → Stroked
-modelStroked look s p =
+unfoldable pub modelPainted : Look → Settings → List ℕ → Painted
+modelPainted look s p =
     strokedBy (modelVerdict p (hasIn (look Texture)) (s .matrices) (look Model (wordAt p 0))) (modelStrokes s p (look Texture) (look Model (wordAt p 0)))
 
--- "Anything else sets bit 3"
-unfoldable pub floatsBy : Look → Settings → ℕ → List ℕ → Stroked
-floatsBy look s op p =
-    let wrong : Stroked = strokedBy wrongLength [] in
-    cond (eqb op 0x14) (ofLength 12 p (transformedStroked s false p) wrong)
-    (cond (eqb op 0x16) (ofLength 21 p (transformedStroked s true p) wrong)
-    (cond (eqb op 0x18) (ofLength 20 p (texturedStroked look s false p) wrong)
-    (cond (eqb op 0x19) (ofLength 29 p (texturedStroked look s true p) wrong)
-    (cond (eqb op 0x1b) (ofLength 2 p (modelStroked look s p) wrong)
-    (strokedBy (Refused UnknownOpcode 0) [])))))
+-- "04, 3 words .. 12, 11 words .. 14, 12 words and 16, 21 words .. 18, 20 words and 19, 29 words .. 1B, 2 words"
+abbrev pub drawWords : Draw → ℕ
+drawWords draw.Clear = 3
+drawWords draw.Flat = 11
+drawWords (draw.Transformed normal) = cond normal 21 12
+drawWords (draw.Textured normal) = cond normal 29 20
+drawWords draw.Model = 2
 
-abbrev pub asPaints : Stroked → Painted
-asPaints k = painted (k .verdict) (map stroked (k .strokes))
+abbrev pub drawnBy : Look → Settings → Draw → List ℕ → Painted
+drawnBy look s draw.Clear p = clearPainted p
+drawnBy look s draw.Flat p = flatPainted p
+drawnBy look s (draw.Transformed normal) p = transformedPainted s normal p
+drawnBy look s (draw.Textured normal) p = texturedPainted look s normal p
+drawnBy look s draw.Model p = modelPainted look s p
 
-unfoldable pub paintedBy : Look → Settings → ℕ → List ℕ → Painted
-paintedBy look s op p =
-    cond (eqb op 0x04) (ofLength 3 p (clearPainted p) (refused wrongLength))
-    (cond (eqb op 0x12) (ofLength 11 p (flatPainted p) (refused wrongLength)) (asPaints (floatsBy look s op p)))
+unfoldable pub paintedBy : Look → Settings → Draw → List ℕ → Painted
+paintedBy look s d p = ofLength (drawWords d) p (drawnBy look s d p) (refused wrongLength)
 
 -- ---- `execute`
 abbrev pub toldBy : Settings → Painted → Told
@@ -171,5 +194,12 @@ toldBy s a = tells (a .verdict) s (a .paints)
 abbrev pub toldOf : Changed → Told
 toldOf c = tells (c .verdict) (c .settings) []
 
+-- "Anything else sets bit 3"
+abbrev pub toldAs : Look → Settings → Command → List ℕ → Told
+toldAs look s (Sets x) p = toldOf (settingsAfter s x p)
+toldAs look s (Loads k) p = loadTold s k p
+toldAs look s (Paints d) p = toldBy s (paintedBy look s d p)
+toldAs look s Unknown p = tells unknown s []
+
 unfoldable pub told : Look → Settings → ℕ → List ℕ → Told
-told look s op p = cond (sets op) (toldOf (settingsAfter s op p)) (cond (loads op) (loadTold s op p) (toldBy s (paintedBy look s op p)))
+told look s op p = toldAs look s (commandOf op) p

@@ -1,23 +1,28 @@
-// `execute`: the command whose payload is complete. Each arm is lent only what it touches.
+// The command whose payload is complete: what it is (`command`), and what it does. One that sets is
+// lent the command area, one that loads the stores too, and one that paints (`paint`) the picture.
 pub mod clear;
+pub mod command;
 pub mod paint;
 pub mod set;
 pub mod upload;
 
+use command::Setting;
 use settings::Settings;
 use state::State;
+use store::Kind;
 use store::SLOTS;
 use store::Slot;
 use verdict::Verdict;
 ghost use mathlib.Core.Path.{_≡_};
-ghost use Prim.Native.Nat.{_≤_};
+ghost use mathlib.Core.List.{List};
+ghost use Prim.Native.Nat.{ℕ, _≤_};
 ghost use lib.ListN.{length};
-ghost use Rattle.screen.specs.Plane.{planeBytes};
-ghost use Rattle.screen.specs.Draw.{pixels};
-ghost use Rattle.store.specs.declared.Kind.the-variants as kind;
+ghost use Rattle.store.specs.declared.Kind.the-variants.{Texture, Model};
 ghost use Rattle.state.specs.State.{mostPayload};
-ghost use Rattle.execute.specs.Control.{executed};
-ghost use Rattle.execute.specs.Kept.{Formed, asBox, machine, endedState};
+ghost use Rattle.execute.specs.declared.command.Command.the-variants.{Sets, Loads};
+ghost use Rattle.execute.specs.Commands.{commandOf};
+ghost use Rattle.execute.specs.Control as control;
+ghost use Rattle.execute.specs.Kept.{Formed, asBox, controlOf, endedState};
 
 // The state after a command: no command is begun any more, and what was refused shows in the status.
 fn ended(
@@ -40,60 +45,52 @@ fn ended(
     }
 }
 
-// The payload is the first `gathered` words of the command area.
-pub fn execute(
+// The payload is the first `gathered` words of the command area. T and M, the stores' words, stay.
+pub fn after_set(setting: Setting, state: State, command: &[u32]) -> State
+    requires { ⌜ commandOf (state .opcode) ≡ Sets setting ⌝ }
+    requires { ⌜ state .gathered ≤ length (now command) ⌝ }
+    ensures { λ r. ⌜ ((T M : List ℕ) → controlOf r (now (command .entry)) T M ≡ control.execute asBox (controlOf state (now (command .entry)) T M) .control) ⌝ }
+{
+    let n = state.gathered as usize;
+    let s = state.settings;
+    let t = state.textures;
+    let m = state.models;
+    let c = set::set(setting, s, &command[..n]);
+    let after = c.settings;
+    let verdict = c.verdict;
+    ended(state, after, t, m, verdict)
+}
+
+pub fn after_load(
+    kind: Kind,
     state: State,
-    plane: &mut [u8],
-    depth: &mut [i32],
-    depth_f32: &mut [f32],
     command: &[u32],
     textures: &mut [u32],
     models: &mut [u32],
 ) -> State
-    requires { ⌜ length (now plane) ≡ planeBytes ⌝ }
-    requires { ⌜ length (now depth) ≡ pixels ⌝ }
-    requires { ⌜ length (now «depth_f32») ≡ pixels ⌝ }
+    requires { ⌜ commandOf (state .opcode) ≡ Loads kind ⌝ }
     requires { ⌜ state .gathered ≤ length (now command) ⌝ }
     requires { ⌜ length (now command) ≡ mostPayload ⌝ }
-    requires { ⌜ Formed kind.Texture (state .textures) (length (now textures)) ⌝ }
-    requires { ⌜ Formed kind.Model (state .models) (length (now models)) ⌝ }
-    ensures { λ r. ⌜ machine r (now (plane .exit)) (now (depth .exit)) (now («depth_f32» .exit)) (now (command .entry)) (now (textures .exit)) (now (models .exit))
-        ≡ executed asBox (machine state (now (plane .entry)) (now (depth .entry)) (now («depth_f32» .entry)) (now (command .entry)) (now (textures .entry)) (now (models .entry))) ⌝ }
+    requires { ⌜ Formed Texture (state .textures) (length (now textures)) ⌝ }
+    requires { ⌜ Formed Model (state .models) (length (now models)) ⌝ }
+    ensures { λ r. ⌜ controlOf r (now (command .entry)) (now (textures .exit)) (now (models .exit)) ≡ control.execute asBox (controlOf state (now (command .entry)) (now (textures .entry)) (now (models .entry))) .control ⌝ }
 {
     let n = state.gathered as usize;
-    let op = state.opcode;
     let s = state.settings;
     let t = state.textures;
     let m = state.models;
-    if set::sets(op) {
-        let c = set::set(op, s, &command[..n]);
-        let after = c.settings;
-        let verdict = c.verdict;
-        return ended(state, after, t, m, verdict);
+    match kind {
+        Kind::Texture => {
+            let k = upload::upload_texture(t, textures, &command[..n]);
+            let slots = k.slots;
+            let verdict = k.verdict;
+            ended(state, s, slots, m, verdict)
+        }
+        Kind::Model => {
+            let k = upload::upload_model(m, models, &command[..n]);
+            let slots = k.slots;
+            let verdict = k.verdict;
+            ended(state, s, t, slots, verdict)
+        }
     }
-    if op == 0x17 {
-        let k = upload::upload_texture(t, textures, &command[..n]);
-        let slots = k.slots;
-        let verdict = k.verdict;
-        return ended(state, s, slots, m, verdict);
-    }
-    if op == 0x1a {
-        let k = upload::upload_model(m, models, &command[..n]);
-        let slots = k.slots;
-        let verdict = k.verdict;
-        return ended(state, s, t, slots, verdict);
-    }
-    let v = paint::paint(
-        op,
-        &command[..n],
-        s,
-        t,
-        textures,
-        m,
-        models,
-        plane,
-        depth,
-        depth_f32,
-    );
-    ended(state, s, t, m, v)
 }

@@ -1,33 +1,12 @@
 // 01, 02 and 15: what the settings become.
+use crate::command::Setting;
+use crate::command::setting_words;
+use crate::command::wrong_length;
 use settings::Changed;
 use settings::Settings;
-use verdict::Reason;
-use verdict::Verdict;
 ghost use mathlib.Core.Path.{_≡_};
-ghost use mathlib.Core.Bool.{true};
 ghost use Rattle.settings.specs.Settings.{changed};
-ghost use Rattle.execute.specs.Commands.{wrongLength, sets, settingsAfter};
-
-pub fn wrong_length() -> Verdict
-    ensures { λ r. ⌜ r ≡ wrongLength ⌝ }
-{
-    Verdict::Refused {
-        reason: Reason::WrongLength,
-        index: 0,
-    }
-}
-
-pub fn sets(op: u32) -> bool
-    ensures { λ r. ⌜ r ≡ sets op ⌝ }
-{
-    if op == 0x01 {
-        return true;
-    }
-    if op == 0x02 {
-        return true;
-    }
-    op == 0x15
-}
+ghost use Rattle.execute.specs.Commands.{wrongLength, settingsAfter};
 
 fn unchanged(s: Settings) -> Changed
     ensures { λ r. ⌜ r ≡ changed wrongLength s s ⌝ }
@@ -38,21 +17,15 @@ fn unchanged(s: Settings) -> Changed
     }
 }
 
-pub fn set(op: u32, s: Settings, p: &[u32]) -> Changed
-    requires { ⌜ sets op ≡ true ⌝ }
-    ensures { λ r. ⌜ r ≡ settingsAfter s op (now (p .entry)) ⌝ }
+pub fn set(setting: Setting, s: Settings, p: &[u32]) -> Changed
+    ensures { λ r. ⌜ r ≡ settingsAfter s setting (now (p .entry)) ⌝ }
 {
-    if op == 0x01 {
-        if p.len() == 2 {
-            return settings::set_mode(s, p);
-        }
+    if p.len() != setting_words(setting) {
         return unchanged(s);
     }
-    if p.len() != 17 {
-        return unchanged(s);
+    match setting {
+        Setting::Mode => settings::set_mode(s, p),
+        Setting::Matrix => settings::set_matrix(s, p),
+        Setting::Light => settings::set_light(s, p),
     }
-    if op == 0x02 {
-        return settings::set_matrix(s, p);
-    }
-    settings::set_light(s, p)
 }

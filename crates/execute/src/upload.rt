@@ -1,5 +1,5 @@
 // 17 and 1A: what is checked of an upload before the stores are asked for room.
-use crate::set::wrong_length;
+use crate::command::wrong_length;
 use store::Kind;
 use store::Room;
 use store::SLOTS;

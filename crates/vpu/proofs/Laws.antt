@@ -1,12 +1,12 @@
 -- Laws of the machine's definitions that the proofs cite: a word, the loop over the words, the calls' outcomes. Assumes nothing.
 use Prim.Native.Nat.{ℕ, zero, suc, _+_, _-_, _/_, _%_, _<_, _≤_}
 use mathlib.Core.Path.{_≡_, refl, sym, ap, _∙_}
-use mathlib.Core.Bool.{Bool, true, false, cond, and-eq-true-iff, true≢false}
+use mathlib.Core.Bool.{Bool, true, false, cond, and-eq-true-iff}
 use mathlib.Core.List.{List, [], _∷_, _++_}
 use native.Mathlib.Omega.{arith}
 use native.Mathlib.Nat.{add-zero, sub-zero, le-refl}
 use native.Mathlib.Numerals.{add-one}
-use borrow.Author.Tests.{eq-eqb, ne-eqb, eqb-true, eqb-false, leb-true, lt-ltb, le-ltb}
+use borrow.Author.Tests.{eq-eqb, ne-eqb, eqb-true, leb-true, lt-ltb, le-ltb}
 use lib.IntN.{ℤ}
 use lib.Ieee.{Float}
 use lib.Bits.{bitOr}
@@ -22,16 +22,18 @@ use Rattle.verdict.specs.declared.Verdict.{Verdict}
 use Rattle.verdict.specs.declared.Reason.the-variants.{ZeroOpcode, CountTooLarge}
 use Rattle.state.specs.State.{mostPayload, begunOk, wellFormed, fresh}
 use Rattle.state.specs.declared.State.{State}
-use Rattle.execute.specs.Paints.{picture, paintsOn}
-use Rattle.execute.specs.Commands.{paintedBy, sets}
+use Rattle.execute.specs.declared.command.Command.{Command}
+use Rattle.execute.specs.declared.command.Command.the-variants.{Unknown}
+use Rattle.execute.specs.Paints.{paintsOn}
+use Rattle.execute.specs.Commands.{commandOf, unknown}
 use Rattle.execute.specs.Control.{Keep, Seen, execute, executed}
-use Rattle.execute.specs.Kept.{Machine, machine, asBox, Formed, shelf, lookOn}
+use Rattle.execute.specs.Kept.{Machine, controlOf, machine, asBox, Formed}
 use Rattle.execute.proofs.Formed.{Stands, execute-stands}
-use Rattle.execute.proofs.Executed.{paint-executed}
+use Rattle.execute.proofs.Executed.{blank-executed, unknown-executed}
 use Rattle.framing.specs.declared.Frame.{Frame}
 use Rattle.vpu.specs.Framing.{word, header, gather, wordOn, run}
 use Rattle.framing.specs.Frames.{frame, frameOf, withFrame, droppedFrame, wordFrame, wordArea, readyOf, betweenOf, gatheredFrame}
-use Rattle.vpu.specs.Sound.{changes, Sound}
+use Rattle.vpu.specs.Sound.{Sound}
 use Rattle.vpu.specs.Calls.{stateOf, outcome, lengthsOk, feed, cleared, reset}
 use Rattle.framing.proofs.Words.{Case, zero-opcode, too-many, at-once, begins, last, more, case-of, idle, gathering, begun-fits, word-fits, word-begun, word-payload, area-header, area-payload, area-length, ready-idle, ready-whole, ready-wanting, between-fits, case-zero, case-many, case-begun}
 
@@ -122,29 +124,6 @@ executed-idle m s P D F C T M e =
     let g : s .gathered ≡ 0 = ap (λ (n : Machine). n .control .box .gathered) e in
     let w : s .wanted ≡ 0 = ap (λ (n : Machine). n .control .wanted) e in
     rw (o, g, w)
-
--- ---- a command that can change neither settings nor stores
-neither : (b c : Bool) → cond b true c ≡ false → (b ≡ false) × (c ≡ false)
-neither true c h = absurd (true≢false h)
-neither false c h = (refl, h)
-
-pub paint-only : (op : ℕ) → changes op ≡ false → (sets op ≡ false) × ((op ≡ 0x17 → ⊥) × (op ≡ 0x1a → ⊥))
-unfolding changes
-paint-only op h =
-    let a = neither _ _ h in
-    let b = neither _ _ (a .1) in
-    (a .0, (eqb-false op 0x17 (b .0), eqb-false op 0x1a (b .1)))
-
--- it paints, and leaves the state with no command begun
-pub painted-is : (s : State) (f r : Frame) (P : List ℕ) (D : List ℤ) (F : List Float) (C T M : List ℕ) (v : Verdict) (P′ : List ℕ) (D′ : List ℤ) (F′ : List Float)
-    → changes (f .opcode) ≡ false
-    → v ≡ paintedBy (lookOn (shelf (s .textures) T) (shelf (s .models) M)) (s .settings) (f .opcode) (take (f .gathered) C) .verdict
-    → picture P′ D′ F′ ≡ paintsOn (paintedBy (lookOn (shelf (s .textures) T) (shelf (s .models) M)) (s .settings) (f .opcode) (take (f .gathered) C) .paints) (picture P D F)
-    → r ≡ frame 0 0 0 (bitOr (f .status) (bitsOf v))
-    → machine (withFrame s r) P′ D′ F′ C T M ≡ executed asBox (machine (withFrame s f) P D F C T M)
-painted-is s f r P D F C T M v P′ D′ F′ h e q g =
-    let o = paint-only (f .opcode) h in
-    paint-executed (withFrame s f) P D F C T M v P′ D′ F′ (withFrame s r) (o .0) (o .1 .0) (o .1 .1) e q (ap (withFrame s) g)
 
 -- ---- words, one after the other
 module _ {X : Type 0} (K : Keep X) where
@@ -237,28 +216,34 @@ module _ {ws : List ℕ} {m₀ : Machine} {s : State} {f : Frame} {P : List ℕ}
           of-models = h .of-models;
         })
 
-    pub held-command : {t s″ : State} {f″ : Frame} {P″ : List ℕ} {D″ : List ℤ} {F″ : List Float} {T″ M″ : List ℕ}
-        → readyOf f′ ≡ true → t ≡ withFrame s f′
-        → machine s″ P″ D″ F″ C′ T″ M″ ≡ executed asBox (machine t P D F C′ T M)
-        → length P″ ≡ length P → length D″ ≡ length D → length F″ ≡ length F → length T″ ≡ length T → length M″ ≡ length M
+    -- what the command is, of a state with this frame
+    pub held-is : {t : State} {r c : Command} → t ≡ withFrame s f′ → r ≡ commandOf (f′ .opcode) → r ≡ c → commandOf (t .opcode) ≡ c
+    held-is e a b = ap (λ (x : State). commandOf (x .opcode)) e ∙ sym a ∙ b
+
+    -- of a command that paints nothing
+    pub held-command : {t s″ : State} {f″ : Frame} {T″ M″ : List ℕ}
+        → readyOf f′ ≡ true → t ≡ withFrame s f′ → execute asBox (controlOf t C′ T M) .paints ≡ []
+        → controlOf s″ C′ T″ M″ ≡ execute asBox (controlOf t C′ T M) .control
+        → length T″ ≡ length T → length M″ ≡ length M
         → length (t .textures) ≡ 64 → length (t .models) ≡ 64 → f″ ≡ frameOf s″
-        → Held ws m₀ s″ f″ P″ D″ F″ C′ T″ M″ (k + 1)
-    held-command {t = t′} r e x p d g t m a b y =
+        → Held ws m₀ s″ f″ P D F C′ T″ M″ (k + 1)
+    held-command {t = t′} {s″ = s″} {T″ = T″} {M″ = M″} r e z c t m a b y =
         let h = held .sound in
+        let x : machine s″ P D F C′ T″ M″ ≡ executed asBox (machine t′ P D F C′ T M) = blank-executed t′ C′ T M P D F s″ T″ M″ z c in
         let runs = held-runs {t = t′} e in
         let few : t′ .gathered ≤ mostPayload = omega (arith, runs .within, runs .of-command) in
         let formed = command-formed (machine t′ P D F C′ T M) x few
         (record { textures = record { slots = a; long = refl; formed = runs .of-textures }; models = record { slots = b; long = refl; formed = runs .of-models } }) in
-        let z = executed-idle _ _ _ _ _ _ _ _ x in
+        let idle = executed-idle _ _ _ _ _ _ _ _ x in
         rw y
         (record {
           within = omega arith;
           sound = record {
-            of-plane = p ∙ h .of-plane;
-            of-depth = d ∙ h .of-depth;
-            of-floats = g ∙ h .of-floats;
+            of-plane = h .of-plane;
+            of-depth = h .of-depth;
+            of-floats = h .of-floats;
             of-command = same-area ∙ h .of-command;
-            begun = z;
+            begun = idle;
             of-textures = formed .0;
             of-models = formed .1;
           };
@@ -290,6 +275,11 @@ module _ {ws : List ℕ} {m₀ : Machine} {s : State} {f : Frame} {P : List ℕ}
           same-models = held .same-models;
           rest = rw x (rw (turned true r) at (run-turn asBox ws k _ _ is-more (held .rest)));
         }
+
+    -- and of one that is unknown, which paints nothing either
+    pub held-unknown : {f″ : Frame} {v : Verdict} → readyOf f′ ≡ true → commandOf (f′ .opcode) ≡ Unknown → v ≡ unknown → f″ ≡ frame 0 0 0 (bitOr (f′ .status) (bitsOf v))
+        → Held ws m₀ s f″ P D F C′ T M (k + 1)
+    held-unknown {f″ = f″} r h u e = held-painted r (unknown-executed (withFrame s f′) C′ T M P D F (withFrame s f″) h (ap (withFrame s) (rw u at e))) refl refl refl
 
 -- ---- a run of payload words, none of them the last, is copied at once
 -- the places of word n of a run: in the command area, in what is left of the words

@@ -1,19 +1,13 @@
 -- What the loop over the words asks of a machine. Definitions only.
 use Prim.Native.Nat.{ℕ}
 use mathlib.Core.Path.{_≡_}
-use mathlib.Core.Bool.{Bool, true, cond}
-use lib.Dec.{eqb}
+use mathlib.Core.Bool.{true}
 use Rattle.screen.specs.Plane.{planeBytes}
 use Rattle.screen.specs.Draw.{pixels}
 use Rattle.store.specs.declared.Kind.the-variants.{Texture, Model}
 use Rattle.state.specs.State.{mostPayload, begunOk}
 use Rattle.state.specs.declared.State.{State}
-use Rattle.execute.specs.Commands.{sets}
 use Rattle.execute.specs.Kept.{Formed}
-
--- the commands that can change settings or stores: 01, 02 and 15, 17, 1A
-unfoldable pub changes : ℕ → Bool
-changes op = cond (sets op) true (cond (eqb op 0x17) true (eqb op 0x1a))
 
 -- a machine that words may be run on: lent memories of these lengths, a begun command and stores that are well formed
 pub record Sound (s : State) (plane depth depthF command textures models : ℕ) : Type 0 where

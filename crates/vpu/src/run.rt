@@ -1,37 +1,50 @@
-// The loop over the words: payload is copied in runs and moves four numbers, as commands that paint do; the
-// others move the state.
+// The loop over the words: payload is copied in runs and moves four numbers, as commands that paint do;
+// those that set or load move the state.
+use execute::after_load;
+use execute::after_set;
+use execute::command::Command;
+use execute::command::Draw;
+use execute::command::command_of;
+use execute::command::unknown;
 use framing::Frame;
+use framing::frame_of;
+use framing::with_frame;
 use state::State;
+use verdict::Verdict;
 ghost use mathlib.Core.Path.{_≡_};
-ghost use mathlib.Core.Bool.{true, false};
+ghost use mathlib.Core.Bool.{true};
 ghost use Prim.Native.Nat.{_≤_};
+ghost use lib.Bits.{bitOr};
 ghost use lib.ListN.{length};
+ghost use Rattle.verdict.specs.Verdict.{bitsOf};
 ghost use Rattle.screen.specs.Plane.{planeBytes};
 ghost use Rattle.screen.specs.Draw.{pixels};
 ghost use Rattle.store.specs.Slots.{slotsOk};
 ghost use Rattle.store.specs.declared.Kind.the-variants as kind;
+ghost use Rattle.execute.specs.declared.command.Command.the-variants.{Paints};
+ghost use Rattle.execute.specs.Commands.{commandOf};
 ghost use Rattle.execute.specs.Control.{executed};
 ghost use Rattle.execute.specs.Kept.{machine, asBox};
+ghost use Rattle.framing.specs.Frames.{frame, withFrame};
 ghost use Rattle.vpu.specs.Framing.{run};
-ghost use Rattle.framing.specs.Frames.{withFrame};
-ghost use Rattle.vpu.specs.Sound.{changes, Sound};
+ghost use Rattle.vpu.specs.Sound.{Sound};
 
-// Can the command change settings or stores?
-fn changes(op: u32) -> bool
-    ensures { λ r. ⌜ r ≡ changes op ⌝ }
+// No command is begun any more, and what was refused shows in the status.
+fn ended(f: Frame, verdict: Verdict) -> Frame
+    ensures { λ r. ⌜ r ≡ frame 0 0 0 (bitOr (f .status) (bitsOf verdict)) ⌝ }
 {
-    if execute::set::sets(op) {
-        return true;
+    Frame {
+        opcode: 0,
+        gathered: 0,
+        wanted: 0,
+        status: verdict::status_after(f.status, verdict),
     }
-    if op == 0x17 {
-        return true;
-    }
-    op == 0x1a
 }
 
-// A command that cannot, so that the state need not be built again: it paints, and of the state it
-// moves the frame alone.
+// A command that paints changes neither settings nor stores, so that the state need not be built
+// again: of the state it moves the frame alone.
 fn painted(
+    draw: Draw,
     s: State,
     f: Frame,
     plane: &mut [u8],
@@ -41,7 +54,7 @@ fn painted(
     textures: &[u32],
     models: &[u32],
 ) -> Frame
-    requires { ⌜ changes (f .opcode) ≡ false ⌝ }
+    requires { ⌜ commandOf (f .opcode) ≡ Paints draw ⌝ }
     requires { ⌜ length (now plane) ≡ planeBytes ⌝ }
     requires { ⌜ length (now depth) ≡ pixels ⌝ }
     requires { ⌜ length (now «depth_f32») ≡ pixels ⌝ }
@@ -56,7 +69,7 @@ fn painted(
     let slots = s.textures;
     let model_slots = s.models;
     let verdict = execute::paint::paint(
-        f.opcode,
+        draw,
         &command[..n],
         settings,
         slots,
@@ -67,12 +80,7 @@ fn painted(
         depth,
         depth_f32,
     );
-    Frame {
-        opcode: 0,
-        gathered: 0,
-        wanted: 0,
-        status: verdict::status_after(f.status, verdict),
-    }
+    ended(f, verdict)
 }
 
 pub fn run_words(
@@ -90,26 +98,26 @@ pub fn run_words(
         ≡ run asBox (machine state (now (plane .entry)) (now (depth .entry)) (now («depth_f32» .entry)) (now (command .entry)) (now (textures .entry)) (now (models .entry))) (now (words .entry)) ⌝ }
 {
     let mut s = state;
-    let mut f = framing::frame_of(state);
+    let mut f = frame_of(state);
     let mut k = 0;
     while k < words.len() {
         let w = words[k];
         k += 1;
         f = framing::take_word(f, w, command);
         if framing::ready(f) {
-            if changes(f.opcode) {
-                s = execute::execute(
-                    framing::with_frame(s, f),
-                    plane,
-                    depth,
-                    depth_f32,
-                    command,
-                    textures,
-                    models,
-                );
-                f = framing::frame_of(s);
-            } else {
-                f = painted(s, f, plane, depth, depth_f32, command, textures, models);
+            match command_of(f.opcode) {
+                Command::Sets(setting) => {
+                    s = after_set(setting, with_frame(s, f), command);
+                    f = frame_of(s);
+                }
+                Command::Loads(kind) => {
+                    s = after_load(kind, with_frame(s, f), command, textures, models);
+                    f = frame_of(s);
+                }
+                Command::Paints(d) => {
+                    f = painted(d, s, f, plane, depth, depth_f32, command, textures, models);
+                }
+                Command::Unknown => f = ended(f, unknown()),
             }
         } else {
             let n = framing::between(f, words.len() - k);
@@ -117,5 +125,5 @@ pub fn run_words(
             k += n;
         }
     }
-    framing::with_frame(s, f)
+    with_frame(s, f)
 }

@@ -1,8 +1,8 @@
 -- A command that paints is the definition's, whose state is the one at hand with another frame. Assumes nothing.
 use mathlib.Core.Path.{sym, ap}
 use lib.Seq.{length-take-le}
-use Rattle.framing.specs.Frames.{frame}
-use Rattle.vpu.proofs.Laws.{painted-is}
+use Rattle.execute.proofs.Executed.{paint-executed}
+use Rattle.framing.specs.Frames.{withFrame}
 use borrow.Author.Needs.{needs}
 use Rattle.vpu.proofs.run.painted.Statement.{statement}
 use Rattle.vpu.proofs.run.painted.Tie as tie
@@ -21,8 +21,8 @@ paint-requires c κs =
     let p = start .pre in
     (p .1 .0, (p .1 .1 .0, (p .1 .1 .1 .0, (p .1 .1 .1 .1 .1 .0, p .1 .1 .1 .1 .1 .1))))
 
-status-after-requires : tie.Need-status-after-requires
-status-after-requires c κs = search needs
+ended-requires : tie.Need-ended-requires
+ended-requires c κs = search needs
 
 same-length : tie.Need-same-length
 same-length c = search needs
@@ -37,7 +37,8 @@ returns : tie.Need-returns
 returns c =
     let d = c .before .before .before .before .before .before in
     let start = d .before .before .before .before .before .before .before .before .before .before .before .before .before .before in
-    painted-is (start .args .s) (start .args .f) _ _ _ _ _ _ _ _ _ _ _ (start .pre .0) (d .paint .ensures .0) (d .paint .ensures .1) (ap (λ n. frame 0 0 0 n) (c .status-after .ensures))
+    let s = start .args .s in
+    paint-executed (withFrame s (start .args .f)) _ _ _ _ _ _ _ _ _ _ _ _ (start .pre .0) (d .paint .ensures .0) (d .paint .ensures .1) (ap (withFrame s) (c .ended .ensures))
 
 pub painted-spec : {M : Type 1} → statement M
 painted-spec =
@@ -46,7 +47,7 @@ painted-spec =
     cast-n
     slice-aggregate-paint
     paint-requires
-    status-after-requires
+    ended-requires
     same-length
     same-length-2
     same-length-3
