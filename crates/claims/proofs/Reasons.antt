@@ -17,7 +17,7 @@ use Rattle.verdict.specs.declared.Verdict.the-variants.{Done, Refused}
 use Rattle.payload.specs.Words.{andThen, wordAt, floatAt, atMost, finiteFrom}
 use Rattle.settings.specs.declared.Settings.{Settings}
 use Rattle.settings.specs.declared.Changed.{Changed}
-use Rattle.settings.specs.Settings.{changed, modeVerdict, withMode, matrixVerdict, withMatrix, lightVerdict, withLight}
+use Rattle.settings.specs.Settings.{changed, modeVerdict, matrixVerdict, lightVerdict}
 use Rattle.store.specs.Uploads.{Whole}
 use Rattle.flat.specs.Words.{signedAt, inReach, firstOut, flatVerdict}
 use Rattle.decide.specs.Corners.{colorAt, firstOf, corner, normalMatrixOf, cornersOf}
@@ -30,11 +30,11 @@ use Rattle.execute.specs.declared.command.Draw.{Draw}
 use Rattle.execute.specs.declared.command.Draw.the-variants as draw
 use Rattle.execute.specs.declared.command.Command.{Command}
 use Rattle.execute.specs.declared.command.Command.the-variants.{Sets, Loads, Paints, Unknown}
-use Rattle.execute.specs.Commands.{Look, Painted, refused, unknown, wrongLength, commandOf, settingsAfter, textureVerdict, countVerdict, clearPainted, flatPainted, transformedPainted, texturedPainted, modelPainted, drawWords, drawnBy, paintedBy, toldAs, told}
+use Rattle.execute.specs.Commands.{Look, Painted, refused, unknown, wrongLength, commandOf, settingWords, setBy, settingsAfter, textureVerdict, countVerdict, clearPainted, flatPainted, transformedPainted, texturedPainted, modelPainted, drawWords, drawnBy, paintedBy, toldAs, told}
 use Rattle.execute.proofs.Told.{told-as}
 
 -- what holds in both cases of a test
-either : {A : Type 0} (R : A → Type 0) (b : Bool) (x y : A) → R x → R y → R (cond b x y)
+pub either : {A : Type 0} (R : A → Type 0) (b : Bool) (x y : A) → R x → R y → R (cond b x y)
 either R true x y p q = p
 either R false x y p q = q
 
@@ -93,15 +93,15 @@ module _ (Q : Verdict → Type 0) (done : Q Done) (range : (i : ℕ) → Q (Refu
 
   module _ (long : Q wrongLength) (no-such : Q unknown) (held : Q (Refused NotHeld 0)) where
     -- ---- those that set
-    abbrev Changes : Changed → Type 0
-    Changes c = Q (c .verdict)
+    by-so : (s : Settings) (x : Setting) (p : List ℕ) → Q (setBy s x p .verdict)
+    unfolding modeVerdict matrixVerdict lightVerdict
+    by-so s setting.Mode p = then-so (atMost p 0 1) _ (most-so p 0 1) (most-so p 1 1)
+    by-so s setting.Matrix p = then-so (atMost p 0 2) _ (most-so p 0 2) (from-so p 1 16)
+    by-so s setting.Light p = then-so (atMost p 0 7) _ (most-so p 0 7) (then-so (atMost p 1 1) _ (most-so p 1 1) (from-so p 2 15))
 
-    set-so : (s : Settings) (x : Setting) (p : List ℕ) → Changes (settingsAfter s x p)
-    unfolding settingsAfter modeVerdict matrixVerdict lightVerdict
-    set-so s setting.Mode p = either Changes (eqb (length p) 2) (changed (modeVerdict p) (withMode s p) s) (changed wrongLength s s) (then-so (atMost p 0 1) _ (most-so p 0 1) (most-so p 1 1)) long
-    set-so s setting.Matrix p = either Changes (eqb (length p) 17) (changed (matrixVerdict p) (withMatrix s p) s) (changed wrongLength s s) (then-so (atMost p 0 2) _ (most-so p 0 2) (from-so p 1 16)) long
-    set-so s setting.Light p =
-        either Changes (eqb (length p) 17) (changed (lightVerdict p) (withLight s p) s) (changed wrongLength s s) (then-so (atMost p 0 7) _ (most-so p 0 7) (then-so (atMost p 1 1) _ (most-so p 1 1) (from-so p 2 15))) long
+    set-so : (s : Settings) (x : Setting) (p : List ℕ) → Q (settingsAfter s x p .verdict)
+    unfolding settingsAfter
+    set-so s x p = either (λ (c : Changed). Q (c .verdict)) (eqb (length p) (settingWords x)) (setBy s x p) (changed wrongLength s s) (by-so s x p) long
 
     -- ---- 17 and 1A, before room is asked
     texture-so : (p : List ℕ) → Q (textureVerdict p)
@@ -131,10 +131,7 @@ module _ (Q : Verdict → Type 0) (done : Q Done) (range : (i : ℕ) → Q (Refu
     model-so p has m none = then-so (atMost p 1 2) _ (most-so p 1 2) held
     model-so p has m (some u) = then-so (atMost p 1 2) _ (most-so p 1 2) (records-so (wordAt p 1) has m (u .wide) (u .words))
 
-    abbrev Paints-so : Painted → Type 0
-    Paints-so a = Q (a .verdict)
-
-    drawn-so : (look : Look) (s : Settings) (d : Draw) (p : List ℕ) → Paints-so (drawnBy look s d p)
+    drawn-so : (look : Look) (s : Settings) (d : Draw) (p : List ℕ) → Q (drawnBy look s d p .verdict)
     unfolding clearPainted flatPainted transformedPainted texturedPainted modelPainted
     drawn-so look s draw.Clear p = most-so p 0 3
     drawn-so look s draw.Flat p = flat-so p
@@ -142,9 +139,9 @@ module _ (Q : Verdict → Type 0) (done : Q Done) (range : (i : ℕ) → Q (Refu
     drawn-so look s (draw.Textured normal) p = textured-so p normal _ (s .matrices)
     drawn-so look s draw.Model p = model-so p _ (s .matrices) _
 
-    painted-so : (look : Look) (s : Settings) (d : Draw) (p : List ℕ) → Paints-so (paintedBy look s d p)
+    painted-so : (look : Look) (s : Settings) (d : Draw) (p : List ℕ) → Q (paintedBy look s d p .verdict)
     unfolding paintedBy
-    painted-so look s d p = either Paints-so (eqb (length p) (drawWords d)) (drawnBy look s d p) (refused wrongLength) (drawn-so look s d p) long
+    painted-so look s d p = either (λ (a : Painted). Q (a .verdict)) (eqb (length p) (drawWords d)) (drawnBy look s d p) (refused wrongLength) (drawn-so look s d p) long
 
     -- ---- every command, before room is asked
     as-so : (look : Look) (s : Settings) (c : Command) (p : List ℕ) → Q (toldAs look s c p .verdict)

@@ -1,7 +1,7 @@
 -- A refused command changes status only, clear flags and model draws aside; those change the picture too, and nothing else. Over any way of keeping uploads. Assumes nothing.
 use Prim.Native.Nat.{ℕ, _≤_, _<_}
 use mathlib.Core.Path.{_≡_, refl, ap, _∙_}
-use mathlib.Core.Bool.{Bool, true, false, cond}
+use mathlib.Core.Bool.{Bool, cond}
 use mathlib.Core.Option.{Option, none, some}
 use mathlib.Core.List.{List, [], _∷_, map}
 use native.Mathlib.Omega.{arith}
@@ -35,11 +35,12 @@ use Rattle.execute.specs.declared.command.Draw.{Draw}
 use Rattle.execute.specs.declared.command.Draw.the-variants as draw
 use Rattle.execute.specs.declared.command.Command.{Command}
 use Rattle.execute.specs.declared.command.Command.the-variants.{Sets, Loads, Paints, Unknown}
-use Rattle.execute.specs.Commands.{Look, Load, Told, tells, Painted, refused, wrongLength, ofLength, commandOf, settingsAfter, textureVerdict, countVerdict, loading, textureIn, modelIn, clearPaints, clearPainted, flatPainted, transformedPainted, texturedPainted, modelPainted, drawWords, drawnBy, paintedBy, toldBy, toldAs, told}
+use Rattle.execute.specs.Commands.{Look, Load, Told, tells, Painted, refused, wrongLength, commandOf, settingWords, setBy, settingsAfter, textureVerdict, countVerdict, loading, textureIn, modelIn, clearPaints, clearPainted, flatPainted, transformedPainted, texturedPainted, modelPainted, drawWords, drawnBy, paintedBy, toldBy, toldAs, told}
 use Rattle.execute.specs.Control.{Keep, Control, Seen, roomVerdict, verdictOf, keptOf, execute, executed}
 use Rattle.execute.specs.Kept.{Box, box, asBox}
 use Rattle.execute.proofs.Told.{told-as, command-of-04, command-of-1b, clear-opcode, model-opcode}
 use Rattle.execute.proofs.Painted.{painted-whole, painted-short}
+use Rattle.claims.proofs.Reasons.{either}
 use Rattle.claims.proofs.Status.{toldIn, verdictIn}
 
 -- refused, for whatever reason
@@ -54,11 +55,6 @@ refusal (Refused r i) e = tt
 when-refused : {A : Type 0} (v : Verdict) (a b : A) → Refusal v → whenDone v a b ≡ b
 when-refused Done a b h = absurd h
 when-refused (Refused r i) a b h = refl
-
--- what holds in both cases of a test
-either : {A : Type 0} (R : A → Type 0) (b : Bool) (x y : A) → R x → R y → R (cond b x y)
-either R true x y p q = p
-either R false x y p q = q
 
 -- what a refused command tells, and one that is to keep an upload: the settings as they were, nothing to paint but of a clear and of a model draw, and nothing to keep
 record Quiet (s : Settings) (c : Command) (t : Told) : Type 0 where
@@ -76,14 +72,14 @@ module _ (s : Settings) (p : List ℕ) where
   abbrev Changes : Changed → Type 0
   Changes c = Refusal (c .verdict) → c .settings ≡ s
 
-  changes : (n : ℕ) (v : Verdict) (new : Settings) → Changes (ofLength n p (changed v new s) (changed wrongLength s s))
-  changes n v new = either Changes (eqb (length p) n) (changed v new s) (changed wrongLength s s) (λ h. when-refused v new s h) (λ h. refl)
+  by-quiet : (x : Setting) → Changes (setBy s x p)
+  by-quiet setting.Mode h = when-refused (modeVerdict p) (withMode s p) s h
+  by-quiet setting.Matrix h = when-refused (matrixVerdict p) (withMatrix s p) s h
+  by-quiet setting.Light h = when-refused (lightVerdict p) (withLight s p) s h
 
   set-quiet : (x : Setting) → Changes (settingsAfter s x p)
   unfolding settingsAfter
-  set-quiet setting.Mode = changes 2 (modeVerdict p) (withMode s p)
-  set-quiet setting.Matrix = changes 17 (matrixVerdict p) (withMatrix s p)
-  set-quiet setting.Light = changes 17 (lightVerdict p) (withLight s p)
+  set-quiet x = either Changes (eqb (length p) (settingWords x)) (setBy s x p) (changed wrongLength s s) (by-quiet x) (λ h. refl)
 
   -- ---- what loads
   load-quiet : (k : Kind) (v : Verdict) (l : Load) → Quiet s (Loads k) (loading v s l)
