@@ -112,19 +112,19 @@ fn time(port: &mut Port, work: &Work, passes: u64) -> Result<[f64; 2], String> {
     Ok([0, 1].map(|side| best[side] as f64 / (rounds[side] * work.count as u64) as f64))
 }
 
-/// Nearly all draws of a work have to change a pixel.
+/// Nearly all draws of a work have to change a pixel, and none of a work that is refused.
 fn see(work: &Work) -> Result<(), String> {
     let (mut judge, mut watch) = (Judge::new(), Watch::default());
     judge.reset(START);
     for words in [&work.before, &work.each, &work.words] {
         judge.feed(words, &mut watch);
     }
-    match watch.draws {
-        draws if watch.changed * 20 < draws * 19 => {
-            Err(format!("{}: {} of {draws} seen", work.name, watch.changed))
-        }
-        _ => Ok(()),
+    let (draws, changed) = (watch.draws, watch.changed);
+    let as_meant = if work.status == 0 { changed * 20 >= draws * 19 } else { changed == 0 };
+    if as_meant {
+        return Ok(());
     }
+    Err(format!("{}: {changed} of {draws} seen", work.name))
 }
 
 fn duration(nanoseconds: f64) -> String {
@@ -190,7 +190,8 @@ each command is.
 ";
 
 const ABOUT_WORKS: &str = "Triangles fill half their box, wherever on the screen, and each is nearer than those before it, so that it is seen: 100 in a
-round, in boxes of 2,000 pixels where no other size is said. Lit means two lights. 14 is never lit. A call of one word pays for the state,
+round, in boxes of 2,000 pixels where no other size is said. Lit means two lights. 14 is never lit. A draw
+that is refused stops at the first check that fails, on both sides. A call of one word pays for the state,
 which travels by value and is tested whole (3 kilobytes, 128 slots); a host feeds what it has in one call.
 ";
 

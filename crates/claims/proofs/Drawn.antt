@@ -30,7 +30,7 @@ use Rattle.raster.specs.Raster.{showsAt, shows, inked, inkAt, planeAfter}
 use Rattle.decide.specs.Corners.{normalMatrixOf, viewOf, projectedOf, cornerOf, cornersBy, cornersOf}
 use Rattle.decide.specs.Verdicts as verdicts
 use Rattle.decide.specs.Verdicts.{finite4, plainVertex, texturedBy, checkedVerdict}
-use Rattle.decide.specs.Lit.{texturedLit}
+use Rattle.lit.specs.Lit.{texturedLit}
 use Rattle.draw.specs.Draws.{flatColor, texturedCorners, texturedBrush, heldStrokes, texturedStrokes}
 use Rattle.verdict.specs.declared.Verdict.the-variants.{Done}
 use Rattle.payload.specs.Words.{finiteFrom}

@@ -15,7 +15,8 @@ use Rattle.verdict.specs.declared.Verdict.{Verdict}
 use Rattle.verdict.specs.declared.Verdict.the-variants.{Done, Refused}
 use Rattle.verdict.specs.declared.Reason.the-variants.{NotFinite}
 use Rattle.clip.specs.declared.vertex.ClipVertex.{ClipVertex}
-use Rattle.payload.specs.Words.{andThen, floatAt, atMost, finiteFrom}
+use Rattle.payload.specs.Words.{floatAt, atMost, finiteFrom}
+use Rattle.payload.proofs.Done.{first-done, next-done}
 use Rattle.decide.specs.Corners.{viewOf, projectedOf, cornerOf, cornersBy, cornersOf, inputOf, normalMatrixOf, orZero}
 use Rattle.decide.specs.Verdicts.{invertibleOf, heldOf, finite4, reachedOf, inputsOf, transformedBy, transformedVerdict, plainVertex, plainOf, texturedBy, checkedVerdict, texturedVerdict, refused, alwaysTransformed, alwaysTextured}
 use Rattle.decide.proofs.Finite.{row-finite}
@@ -23,14 +24,6 @@ use Rattle.decide.proofs.Finite.{row-finite}
 -- ---- done, so each of the checks is
 never : {A : Type 0} {reason : Reason} {index : ℕ} → Refused reason index ≡ Done → A
 never h = let z : _≡_ {A = ℕ} 0 1 = cc in absurd (omega arith)
-
-first-done : (a b : Verdict) → andThen a b ≡ Done → a ≡ Done
-first-done Done b h = refl
-first-done (Refused reason index) b h = h
-
-next-done : (a b : Verdict) → andThen a b ≡ Done → b ≡ Done
-next-done Done b h = h
-next-done (Refused reason index) b h = never h
 
 -- refused because not done
 by-done : (a b : Verdict) → (b ≡ Done → a ≡ Done) → refused a ≡ true → refused b ≡ true

@@ -1,4 +1,5 @@
 pub mod Words
 pub mod Finite
+pub mod Decided
 pub mod Always
 pub mod Traps

@@ -1,6 +1,6 @@
--- What the float draws do where a reader may expect otherwise, each by its number in the list of traps. The commands are
---     14  transformedVerdict p false, transformedLit .. false        18  texturedVerdict p false, texturedLit .. false
---     16  transformedVerdict p true, transformedLit .. true          19  texturedVerdict p true, texturedLit .. true
+-- What the float draws' checks do where a reader may expect otherwise, each by its number in the list of traps. The commands are
+--     14  transformedVerdict p false        18  texturedVerdict p false
+--     16  transformedVerdict p true         19  texturedVerdict p true
 -- Assumes nothing.
 use Prim.Native.Nat.{ℕ, _+_, _<_, _≤_}
 use native.Mathlib.Omega.{arith}
@@ -15,16 +15,14 @@ use Rattle.vector.specs.Normals.{inverseTransposeOf}
 use Rattle.vector.specs.declared.matrix.Matrix.{Matrix}
 use Rattle.vector.specs.declared.normal.Inverse.the-variants.{Of, Singular}
 use Rattle.vector.specs.declared.normal.Matrix3.{Matrix3}
-use Rattle.light.specs.declared.Light.{Light}
 use Rattle.clip.specs.declared.vertex.ClipVertex.{ClipVertex}
+use Rattle.verdict.specs.declared.Reason.{Reason}
 use Rattle.verdict.specs.declared.Reason.the-variants.{OutOfRange, NotFinite, NotInvertible}
 use Rattle.verdict.specs.declared.Verdict.the-variants.{Done, Refused}
 use Rattle.payload.specs.Words.{wordAt, atMost}
 use Rattle.decide.specs.Corners.{corner, normalMatrixOf, firstOf}
 use Rattle.decide.specs.Verdicts.{finite4, inputsOf, invertibleOf, transformedBy, transformedVerdict, plainVertex, plainOf, texturedBy, checkedVerdict, texturedVerdict}
-use Rattle.decide.specs.Lit.{meanNormal, faceNormal, oneColor, eachLit, shadedBy, ownLit, faceLit, transformedLit, texturedLit}
 
--- ---- verdicts
 -- the model-view is made of the first 32 cells
 joined : {a a′ b b′ c c′ d d′ : List Float} → a ≡ a′ → b ≡ b′ → c ≡ c′ → d ≡ d′ → a ++ (b ++ (c ++ d)) ≡ a′ ++ (b′ ++ (c′ ++ d′))
 joined p q r s = rw (p, q, r, s)
@@ -73,6 +71,12 @@ module _ (p : List ℕ) (m : List Float) where
   unfolding normalMatrixOf
   never-looked = refl
 
+  -- 14: 14 and 16 test every input word before any transformed position
+  pub words-first : (normal : Bool) {matrix : Matrix3} {reason : Reason} {index : ℕ} → normalMatrixOf m normal ≡ Of matrix → inputsOf p normal false ≡ Refused reason index
+      → transformedVerdict p normal m ≡ Refused reason index
+  unfolding transformedVerdict transformedBy
+  words-first normal inverse words = rw (inverse, words)
+
   -- 14: the mode, word 1, is tested before anything else, the number too
   pub mode-first : (normal held : Bool) → 2 < wordAt p 1 → texturedVerdict p normal held m ≡ Refused OutOfRange 1
   unfolding texturedVerdict
@@ -88,36 +92,3 @@ module _ (p : List ℕ) (tri : List ClipVertex) (h : finite4 (corner tri 0 .posi
   pub overflow-refused-plain : (matrix : Matrix3) → texturedBy p false (Of matrix) tri ≡ Refused NotFinite 2
   unfolding texturedBy plainOf plainVertex
   overflow-refused-plain matrix = rw h
-
--- ---- lighting
-module _ (lights : List Light) (tri : List ClipVertex) where
-  -- 4: mode 0 ignores lighting
-  pub mode-0-unlit : (on normal : Bool) → texturedLit on 0 lights normal tri ≡ tri
-  unfolding texturedLit
-  mode-0-unlit true normal = refl
-  mode-0-unlit false normal = refl
-
-  -- 5: mode 1 of 19 lights by the face's normal, as 18 does
-  pub mode-1-by-face : (on : Bool) → texturedLit on 1 lights true tri ≡ texturedLit on 1 lights false tri
-  unfolding texturedLit
-  mode-1-by-face true = refl
-  mode-1-by-face false = refl
-
-  -- 5: mode 2 of 18 lights by the face's normal, of 19 by the vertices' own
-  pub mode-2-by-face : texturedLit true 2 lights false tri ≡ eachLit (faceLit lights (faceNormal tri)) tri
-  unfolding texturedLit
-  mode-2-by-face = refl
-
-  pub mode-2-by-own : texturedLit true 2 lights true tri ≡ eachLit (ownLit lights) tri
-  unfolding texturedLit
-  mode-2-by-own = refl
-
-  -- 5: 16 with shading 0 has one colour, of the mean normal at vertex 0
-  pub shading-0-by-mean : transformedLit true 0 lights true tri ≡ oneColor tri (shadedBy lights (corner tri 0) (meanNormal tri))
-  unfolding transformedLit
-  shading-0-by-mean = refl
-
-  -- 16: 14 is never lit
-  pub plain-unlit : (on : Bool) (shading : ℕ) → transformedLit on shading lights false tri ≡ tri
-  unfolding transformedLit
-  plain-unlit on shading = refl

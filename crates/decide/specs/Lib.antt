@@ -1,3 +1,3 @@
 pub mod Corners
 pub mod Verdicts
-pub mod Lit
+pub mod Checked

@@ -80,7 +80,7 @@ fn uv_in(p: &[u32], k: usize, textured: bool) -> [f32; 2]
 }
 
 // The vertex whose first word is o.
-fn corner(
+pub fn corner(
     p: &[u32],
     o: usize,
     has_normal: bool,
@@ -106,7 +106,7 @@ fn corner(
 }
 
 // Where there is none, nothing reads it.
-fn no_matrix() -> Matrix3
+pub fn no_matrix() -> Matrix3
     ensures { λ r. ⌜ r ≡ zero3 ⌝ }
 {
     Matrix3 {

@@ -1,5 +1,4 @@
-// The float draws, decided: from payload words to a verdict and three lit corners. Nothing here
-// sees the plane, a depth or a texel; transforming and checking is apart from lighting.
+// The float draws, decided: from payload words and matrices to a verdict and three corners. Nothing
+// here sees a light, the plane, a depth or a texel.
 pub mod corner;
-pub mod lit;
 pub mod verdicts;

@@ -1,11 +1,10 @@
--- The float draws whole, 14, 16, 18, 19 and 1B: what each paints, where it is done. Their verdicts are `decide`'s; the picture is in `stroke`. Definitions only.
+-- The float draws whole, 14, 16, 18, 19 and 1B: what each paints, where it is done. Their verdicts are `decide`'s and `judge`'s; the picture is in `stroke`. Definitions only.
 use Prim.Native.Nat.{ℕ, zero, suc}
 use mathlib.Core.Bool.{Bool, true, false, cond}
 use mathlib.Core.Option.{Option, none, some}
 use mathlib.Core.List.{List, [], _∷_, _++_}
 use lib.Dec.{eqb}
 use lib.ListN.{drop}
-use lib.Ieee.{Float}
 use Rattle.vector.specs.Three.{at}
 use Rattle.clip.specs.declared.vertex.ClipVertex.{ClipVertex}
 use Rattle.raster.specs.declared.ink.Color.{Color}
@@ -14,13 +13,11 @@ use Rattle.stroke.specs.declared.Brush.the-variants.{Flat, Blended, Textured}
 use Rattle.stroke.specs.Strokes.{Stroke, stroke}
 use Rattle.settings.specs.declared.Settings.{Settings}
 use Rattle.store.specs.Uploads.{Whole, isSome}
-use Rattle.verdict.specs.declared.Reason.the-variants.{NotHeld}
-use Rattle.verdict.specs.declared.Verdict.{Verdict}
-use Rattle.verdict.specs.declared.Verdict.the-variants.{Refused}
-use Rattle.payload.specs.Words.{andThen, whenDone, wordAt, atMost}
+use Rattle.payload.specs.Words.{whenDone, wordAt, atMost}
 use Rattle.decide.specs.Corners.{corner, cornersOf}
-use Rattle.decide.specs.Verdicts.{transformedVerdict, checkedVerdict, triangleOf, recordsVerdict}
-use Rattle.decide.specs.Lit.{transformedLit, texturedLit}
+use Rattle.decide.specs.Verdicts.{transformedVerdict, checkedVerdict, triangleOf}
+use Rattle.lit.specs.Lit.{transformedLit, texturedLit}
+pub use Rattle.judge.specs.Judge.{modelVerdict}
 
 -- `flat_color`: "vertex 0's of the triangle before clipping"
 unfoldable pub flatColor : List ClipVertex → Color
@@ -50,6 +47,12 @@ texturedCorners s p normal =
 unfoldable pub texturedBrush : ℕ → ℕ → ℕ → List ClipVertex → Brush
 texturedBrush width height mode tri = Textured (record { width = width; height = height; mode = mode; color = flatColor tri })
 
+-- corners that were decided, lit and with a texture
+unfoldable pub texturedStroke : Settings → ℕ → Bool → List ClipVertex → Whole → Stroke
+texturedStroke s mode normal corners u =
+    let tri = texturedLit (s .«lighting_enabled») mode (s .lights) normal corners in
+    stroke tri (texturedBrush (u .wide) (u .high) mode tri) (u .words)
+
 -- where the mode is in range: a texture of these sides, and its words
 unfoldable pub heldStrokes : Settings → List ℕ → Bool → ℕ → ℕ → List ℕ → List Stroke
 heldStrokes s p normal width height texels =
@@ -65,11 +68,6 @@ unfoldable pub recordsStrokes : Settings → ℕ → (ℕ → Option Whole) → 
 recordsStrokes s mode textures zero words = []
 recordsStrokes s mode textures (suc n) words =
     texturedStrokes s (triangleOf mode words) true (textures (wordAt words 0)) ++ recordsStrokes s mode textures n (drop 28 words)
-
--- "18, 19 and 1B test the mode (index 1) before the number (index 0)"
-unfoldable pub modelVerdict : List ℕ → (ℕ → Bool) → List Float → Option Whole → Verdict
-modelVerdict p has m none = andThen (atMost p 1 2) (Refused NotHeld 0)
-modelVerdict p has m (some u) = andThen (atMost p 1 2) (recordsVerdict (wordAt p 1) has m (u .wide) (u .words))
 
 unfoldable pub modelStrokes : Settings → List ℕ → (ℕ → Option Whole) → Option Whole → List Stroke
 modelStrokes s p textures none = []

@@ -1,34 +1,29 @@
-// The float draws whole: 14, 16, 18, 19 and 1B. Each is decided first (`decide`) and painted after
-// (`stroke`).
+// The float draws whole: 14, 16, 18, 19 and 1B. Each is decided first (`decide`, `judge`), and what
+// is accepted is lit and painted (`stroke`).
 use clip::vertex::ClipVertex;
 use payload::and_then;
-use payload::at_most;
 use raster::ink::Color;
 use settings::Settings;
-use store::Found;
 use store::Kind;
 use store::SLOTS;
 use store::Slot;
 use stroke::Brush;
 use stroke::Texture;
 use vector::normal::Inverse;
-use verdict::Reason;
 use verdict::Verdict;
 ghost use mathlib.Core.Path.{_≡_};
 ghost use mathlib.Core.Bool.{true, false};
 ghost use Prim.Native.Nat.{_+_, _*_, _≤_};
-ghost use Rattle.verdict.specs.declared.Reason.the-variants.{NotHeld};
-ghost use Rattle.verdict.specs.declared.Verdict.the-variants.{Refused};
-ghost use lib.ListN.{length, drop, getD};
+ghost use lib.ListN.{length, getD};
 ghost use Rattle.screen.specs.Plane.{planeBytes};
 ghost use Rattle.screen.specs.Draw.{pixels};
-ghost use Rattle.stroke.specs.Strokes.{sheet, strokesOn};
+ghost use Rattle.stroke.specs.Strokes.{sheet, strokeOn, strokesOn};
 ghost use Rattle.store.specs.Uploads.{isSome};
-ghost use Rattle.store.specs.Slots.{areaOf, sidesOk, slotsOk, lookIn};
+ghost use Rattle.store.specs.Slots.{areaOf, sidesOk, slotsOk, uploadAt, lookIn};
 ghost use Rattle.store.specs.declared.Kind.the-variants as kind;
 ghost use Rattle.decide.specs.Corners.{wordsOf, normalMatrixOf};
-ghost use Rattle.decide.specs.Verdicts.{transformedVerdict, checkedVerdict, texturedVerdict, triangleOf, recordsVerdict};
-ghost use Rattle.draw.specs.Draws.{flatColor, shadedBrush, transformedStrokes, texturedBrush, heldStrokes, texturedStrokes, recordsStrokes, modelVerdict, modelStrokes, hasIn};
+ghost use Rattle.decide.specs.Verdicts.{transformedVerdict, texturedVerdict, recordsVerdict};
+ghost use Rattle.draw.specs.Draws.{flatColor, shadedBrush, transformedStrokes, texturedBrush, texturedStroke, texturedStrokes, recordsStrokes, modelVerdict, modelStrokes, hasIn};
 
 // Vertex 0's, before clipping.
 fn flat_color(tri: [ClipVertex; 3]) -> Color
@@ -69,31 +64,26 @@ pub fn draw_transformed_triangle(
     let m = s.matrices;
     let checked = decide::verdicts::transformed(p, has_normal, &m);
     let verdict = checked.verdict;
+    let Verdict::Done = verdict else {
+        return verdict;
+    };
     let corners = checked.corners;
-    match verdict {
-        Verdict::Done => {
-            let lights = s.lights;
-            let tri = decide::lit::transformed_lit(
-                corners,
-                has_normal,
-                s.lighting_enabled,
-                s.shading_mode,
-                lights,
-            );
-            stroke::paint(
-                plane,
-                depth_f32,
-                tri,
-                shaded_brush(s.shading_mode, tri),
-                &[],
-            );
-            verdict
-        }
-        Verdict::Refused {
-            reason: _,
-            index: _,
-        } => verdict,
-    }
+    let lights = s.lights;
+    let tri = lit::transformed_lit(
+        corners,
+        has_normal,
+        s.lighting_enabled,
+        s.shading_mode,
+        lights,
+    );
+    stroke::paint(
+        plane,
+        depth_f32,
+        tri,
+        shaded_brush(s.shading_mode, tri),
+        &[],
+    );
+    verdict
 }
 
 fn textured_brush(slot: Slot, mode: u32, tri: [ClipVertex; 3]) -> Brush
@@ -107,108 +97,29 @@ fn textured_brush(slot: Slot, mode: u32, tri: [ClipVertex; 3]) -> Brush
     })
 }
 
-// 18 and 19 whose mode is in range, with the texture and the matrix for normals in hand.
-fn draw_held(
+// Corners that were decided, lit and painted with the texture of a slot.
+fn paint_textured(
     plane: &mut [u8],
     depth_f32: &mut [f32],
-    p: &[u32],
+    corners: [ClipVertex; 3],
     has_normal: bool,
     s: Settings,
-    inverse: Inverse,
+    mode: u32,
     slot: Slot,
-    texels: &[u32],
-) -> Verdict
-    requires { ⌜ length (now plane) ≡ planeBytes ⌝ }
-    requires { ⌜ length (now «depth_f32») ≡ pixels ⌝ }
-    requires { ⌜ length (now p) ≡ wordsOf «has_normal» true ⌝ }
-    requires { ⌜ inverse ≡ normalMatrixOf (s .matrices) «has_normal» ⌝ }
-    requires { ⌜ sidesOk kind.Texture (slot .width) (slot .height) ≡ true ⌝ }
-    requires { ⌜ length (now texels) ≡ areaOf kind.Texture (slot .width) (slot .height) ⌝ }
-    ensures { λ r. ⌜ r ≡ checkedVerdict (now (p .entry)) «has_normal» (s .matrices) ⌝ }
-    ensures { λ _. ⌜ sheet (now (plane .exit)) (now («depth_f32» .exit)) ≡ strokesOn (heldStrokes s (now (p .entry)) «has_normal» (slot .width) (slot .height) (now (texels .entry))) (sheet (now (plane .entry)) (now («depth_f32» .entry))) ⌝ }
-{
-    let m = s.matrices;
-    let checked = decide::verdicts::textured(p, has_normal, &m, inverse);
-    let verdict = checked.verdict;
-    let corners = checked.corners;
-    match verdict {
-        Verdict::Done => {
-            let mode = p[1];
-            let lights = s.lights;
-            let tri = decide::lit::textured_lit(
-                corners,
-                has_normal,
-                s.lighting_enabled,
-                mode,
-                lights,
-            );
-            stroke::paint(
-                plane,
-                depth_f32,
-                tri,
-                textured_brush(slot, mode, tri),
-                texels,
-            );
-            verdict
-        }
-        Verdict::Refused {
-            reason: _,
-            index: _,
-        } => verdict,
-    }
-}
-
-fn not_held() -> Verdict
-    ensures { λ r. ⌜ r ≡ Refused NotHeld 0 ⌝ }
-{
-    Verdict::Refused {
-        reason: Reason::NotHeld,
-        index: 0,
-    }
-}
-
-// 18, and with normals 19, with the matrix for normals in hand.
-fn draw_textured_by(
-    plane: &mut [u8],
-    depth_f32: &mut [f32],
-    p: &[u32],
-    has_normal: bool,
-    s: Settings,
-    inverse: Inverse,
-    slots: [Slot; SLOTS],
     textures: &[u32],
-) -> Verdict
+)
     requires { ⌜ length (now plane) ≡ planeBytes ⌝ }
     requires { ⌜ length (now «depth_f32») ≡ pixels ⌝ }
-    requires { ⌜ length (now p) ≡ wordsOf «has_normal» true ⌝ }
-    requires { ⌜ inverse ≡ normalMatrixOf (s .matrices) «has_normal» ⌝ }
-    requires { ⌜ slotsOk kind.Texture (length (now textures)) 0 slots ≡ true ⌝ }
-    ensures { λ r. ⌜ r ≡ texturedVerdict (now (p .entry)) «has_normal» (isSome (lookIn kind.Texture slots (now (textures .entry)) (getD (now (p .entry)) 0 0))) (s .matrices) ⌝ }
-    ensures { λ _. ⌜ sheet (now (plane .exit)) (now («depth_f32» .exit)) ≡ strokesOn (texturedStrokes s (now (p .entry)) «has_normal» (lookIn kind.Texture slots (now (textures .entry)) (getD (now (p .entry)) 0 0))) (sheet (now (plane .entry)) (now («depth_f32» .entry))) ⌝ }
+    requires { ⌜ sidesOk kind.Texture (slot .width) (slot .height) ≡ true ⌝ }
+    requires { ⌜ slot .start + areaOf kind.Texture (slot .width) (slot .height) ≤ length (now textures) ⌝ }
+    ensures { λ _. ⌜ sheet (now (plane .exit)) (now («depth_f32» .exit)) ≡ strokeOn (texturedStroke s mode «has_normal» corners (uploadAt kind.Texture slot (now (textures .entry)))) (sheet (now (plane .entry)) (now («depth_f32» .entry))) ⌝ }
 {
-    let mode = at_most(p, 1, 2);
-    if let Verdict::Refused {
-        reason: _,
-        index: _,
-    } = mode {
-        return mode;
-    }
-    let found = store::slots::find(slots, p[0]);
-    let Found::At(slot) = found else {
-        return not_held();
-    };
+    let lights = s.lights;
+    let tri = lit::textured_lit(corners, has_normal, s.lighting_enabled, mode, lights);
+    let brush = textured_brush(slot, mode, tri);
     let start = slot.start as usize;
     let size = store::slots::area(Kind::Texture, slot.width, slot.height);
-    draw_held(
-        plane,
-        depth_f32,
-        p,
-        has_normal,
-        s,
-        inverse,
-        slot,
-        &textures[start..start + size],
-    )
+    stroke::paint(plane, depth_f32, tri, brush, &textures[start..start + size]);
 }
 
 // 18, and with normals 19.
@@ -229,24 +140,54 @@ pub fn draw_textured_triangle(
     ensures { λ _. ⌜ sheet (now (plane .exit)) (now («depth_f32» .exit)) ≡ strokesOn (texturedStrokes s (now (p .entry)) «has_normal» (lookIn kind.Texture slots (now (textures .entry)) (getD (now (p .entry)) 0 0))) (sheet (now (plane .entry)) (now («depth_f32» .entry))) ⌝ }
 {
     let m = s.matrices;
-    let inverse = decide::corner::normal_matrix(&m, has_normal);
-    draw_textured_by(plane, depth_f32, p, has_normal, s, inverse, slots, textures)
+    let judged = judge::textured(p, has_normal, &m, slots);
+    let verdict = judged.verdict;
+    let Verdict::Done = verdict else {
+        return verdict;
+    };
+    let corners = judged.corners;
+    let slot = judged.slot;
+    paint_textured(
+        plane,
+        depth_f32,
+        corners,
+        has_normal,
+        s,
+        p[1],
+        slot,
+        textures,
+    );
+    verdict
 }
 
-// A record of a model, with the mode between its number and its vertices.
-fn triangle_of(words: &[u32], start: usize, mode: u32) -> [u32; 29]
-    requires { ⌜ start + 28 ≤ length (now words) ⌝ }
-    ensures { λ r. ⌜ r ≡ triangleOf mode (drop start (now (words .entry))) ⌝ }
+// A triangle of a model, with the matrix for normals in hand.
+fn draw_record(
+    plane: &mut [u8],
+    depth_f32: &mut [f32],
+    p: &[u32],
+    s: Settings,
+    inverse: Inverse,
+    slots: [Slot; SLOTS],
+    textures: &[u32],
+) -> Verdict
+    requires { ⌜ length (now plane) ≡ planeBytes ⌝ }
+    requires { ⌜ length (now «depth_f32») ≡ pixels ⌝ }
+    requires { ⌜ length (now p) ≡ 29 ⌝ }
+    requires { ⌜ inverse ≡ normalMatrixOf (s .matrices) true ⌝ }
+    requires { ⌜ slotsOk kind.Texture (length (now textures)) 0 slots ≡ true ⌝ }
+    ensures { λ r. ⌜ r ≡ texturedVerdict (now (p .entry)) true (isSome (lookIn kind.Texture slots (now (textures .entry)) (getD (now (p .entry)) 0 0))) (s .matrices) ⌝ }
+    ensures { λ _. ⌜ sheet (now (plane .exit)) (now («depth_f32» .exit)) ≡ strokesOn (texturedStrokes s (now (p .entry)) true (lookIn kind.Texture slots (now (textures .entry)) (getD (now (p .entry)) 0 0))) (sheet (now (plane .entry)) (now («depth_f32» .entry))) ⌝ }
 {
-    let mut triangle = [0; 29];
-    triangle[0] = words[start];
-    triangle[1] = mode;
-    let mut k: usize = 0;
-    while k < 27 {
-        triangle[2 + k] = words[start + 1 + k];
-        k += 1;
-    }
-    triangle
+    let m = s.matrices;
+    let judged = judge::model_triangle(p, &m, inverse, slots);
+    let verdict = judged.verdict;
+    let Verdict::Done = verdict else {
+        return verdict;
+    };
+    let corners = judged.corners;
+    let slot = judged.slot;
+    paint_textured(plane, depth_f32, corners, true, s, p[1], slot, textures);
+    verdict
 }
 
 // The first n records, each painted where it is not refused.
@@ -273,17 +214,8 @@ fn draw_records(
     let mut verdict = Verdict::Done;
     let mut k: usize = 0;
     while k < n {
-        let triangle = triangle_of(words, 28 * k, mode);
-        let one = draw_textured_by(
-            plane,
-            depth_f32,
-            &triangle,
-            true,
-            s,
-            inverse,
-            slots,
-            textures,
-        );
+        let triangle = judge::model::triangle_of(words, 28 * k, mode);
+        let one = draw_record(plane, depth_f32, &triangle, s, inverse, slots, textures);
         verdict = and_then(verdict, one);
         k += 1;
     }
@@ -309,17 +241,12 @@ pub fn draw_model(
     ensures { λ r. ⌜ r ≡ modelVerdict (now (p .entry)) (hasIn (lookIn kind.Texture slots (now (textures .entry)))) (s .matrices) (lookIn kind.Model «model_slots» (now (models .entry)) (getD (now (p .entry)) 0 0)) ⌝ }
     ensures { λ _. ⌜ sheet (now (plane .exit)) (now («depth_f32» .exit)) ≡ strokesOn (modelStrokes s (now (p .entry)) (lookIn kind.Texture slots (now (textures .entry))) (lookIn kind.Model «model_slots» (now (models .entry)) (getD (now (p .entry)) 0 0))) (sheet (now (plane .entry)) (now («depth_f32» .entry))) ⌝ }
 {
-    let mode = at_most(p, 1, 2);
-    if let Verdict::Refused {
-        reason: _,
-        index: _,
-    } = mode {
-        return mode;
-    }
-    let found = store::slots::find(model_slots, p[0]);
-    let Found::At(slot) = found else {
-        return not_held();
+    let named = judge::mode_and_number(p, model_slots);
+    let verdict = named.verdict;
+    let Verdict::Done = verdict else {
+        return verdict;
     };
+    let slot = named.slot;
     let start = slot.start as usize;
     let count = slot.width as usize;
     draw_records(

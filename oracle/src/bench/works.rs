@@ -174,11 +174,15 @@ fn crossing_draws() -> Vec<Work> {
     vec![of("14, shading 1", TRANSFORMED[0].1, 0, 1, 0), of("19, mode 2, lit", TEXTURED[1].1, 2, 0, 1)]
 }
 
-fn model(number: u32, triangles: usize) -> Command {
+/// Triangles of a model, all under one texture's number.
+fn records(texture: u32, triangles: usize) -> Vec<(u32, Triangle)> {
     let mut maker = Maker::new(Random::named("timed model", 1, 0));
     maker.set_camera(Camera::Orthographic);
-    let records: Vec<(u32, Triangle)> = (0..triangles).map(|_| (1, maker.triangle_of_size(0.05))).collect();
-    Command::model(number, &records)
+    (0..triangles).map(|_| (texture, maker.triangle_of_size(0.05))).collect()
+}
+
+fn model(number: u32, triangles: usize) -> Command {
+    Command::model(number, &records(1, triangles))
 }
 
 /// A model of small triangles, drawn in mode 2 under two lights.
@@ -191,6 +195,41 @@ fn model_draw(triangles: usize) -> Work {
     Work::new(&format!("1B, mode 2, lit, {} triangles", thousands(triangles)), "triangle", triangles, draw)
         .on_empty_depths()
         .after([settings(0, 1), words_of(&before)].concat())
+}
+
+/// A work whose draws are all refused, with the texture 1 held.
+fn refused(name: &str, count: usize, before: &[Command], draws: &[Command]) -> Work {
+    let work = Work::new(&format!("refused: {name}"), "triangle", count, words_of(draws));
+    Work { status: 8, ..work.after([settings(1, 1), words_of(before)].concat()) }
+}
+
+fn refused_draws() -> Vec<Work> {
+    let count = DRAWS as usize;
+    let of =
+        |name, before: &[Command], draw: Draw| refused(name, count, before, &drawn(draw, 2, MIDDLE, inside));
+    let model_of = |name, records: &[(u32, Triangle)]| {
+        let draw = [Command::draw_model(1, 2)];
+        refused(name, records.len(), &[Command::model(1, records)], &draw)
+    };
+    let mut infinite = records(1, 500);
+    infinite.iter_mut().for_each(|(_, triangle)| triangle[0].normal[0] = f32::INFINITY);
+    vec![
+        of("14, an infinite position", &[], |_, triangle| {
+            let mut triangle = *triangle;
+            triangle[0].position[0] = f32::INFINITY;
+            Command::transformed(&triangle)
+        }),
+        of("16, no inverse of the model-view", &[Command::matrix(0, &[0.0; 16])], TRANSFORMED[1].1),
+        of("18, a mode of 3", &[], |_, triangle| Command::textured(1, 3, triangle)),
+        of("18, a number that is not held", &[], |mode, triangle| Command::textured(2, mode, triangle)),
+        of("19, an infinite normal", &[], |mode, triangle| {
+            let mut triangle = *triangle;
+            triangle[0].normal[0] = f32::INFINITY;
+            Command::textured_lit(1, mode, &triangle)
+        }),
+        model_of("1B, 500 triangles, a number that is not held", &records(2, 500)),
+        model_of("1B, 500 triangles, an infinite normal", &infinite),
+    ]
 }
 
 fn upload(name: &str, command: Command) -> Work {
@@ -262,6 +301,7 @@ pub fn all(scenes: &str) -> Result<Vec<Work>, String> {
     works.extend(float_draws());
     works.extend(crossing_draws());
     works.push(model_draw(500));
+    works.extend(refused_draws());
     works.push(upload("17, 256 by 256", texture(1, 256, 256)));
     works.push(upload("17, 1024 by 1024", texture(1, 1024, 1024)));
     works.push(uploads_again("any", any_of_64()));

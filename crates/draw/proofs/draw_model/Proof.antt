@@ -1,15 +1,16 @@
--- The mode, then the look-up, then the model's own words, record by record. Assumes nothing.
+-- The mode and the number, then the model's own words, record by record. Assumes nothing.
 use Prim.Native.Nat.{_+_, _*_, _≤_}
-use mathlib.Core.Path.{_≡_, refl, sym, _∙_}
+use mathlib.Core.Path.{_≡_, refl, _∙_}
 use native.Mathlib.Omega.{arith}
 use lib.ListN.{length, getD}
 use Rattle.stroke.specs.Strokes.{sheet}
 use Rattle.store.specs.declared.Slot.{Slot}
 use Rattle.store.specs.declared.Kind.the-variants.{Texture, Model}
 use Rattle.store.specs.declared.Found.the-variants.{At}
-use Rattle.store.specs.Slots.{slotFor, uploadAt, lookIn}
-use Rattle.store.proofs.Moved.{total-fits, Spot, spot}
-use Rattle.draw.proofs.Laws.{look-none, look-some, part-is, part-long, model-few, model-mode, model-none, model-some}
+use Rattle.store.specs.Slots.{slotFor, lookIn}
+use Rattle.judge.proofs.Laws.{part-is, part-long, sides-at, inside-at, model-few, found-by, model-refused, model-done}
+use Rattle.draw.specs.Draws.{hasIn}
+use Rattle.draw.proofs.Laws.{model-unpainted, model-painted}
 use borrow.Author.Needs.{needs}
 use Rattle.draw.proofs.draw_model.Statement.{statement}
 use Rattle.draw.proofs.draw_model.Tie as tie
@@ -17,68 +18,42 @@ use Rattle.draw.proofs.draw_model.Tie as tie
 long : (c : tie.Start) → length (c .args .model-slots) ≡ 64
 long c = search needs
 
+abbrev start-of : tie.After-mode-and-number → tie.Start
+start-of c = c .before .before .before .before .before .before
+
 -- the slot that is found, and where it stands
-abbrev slot-of : tie.After-known-told → Slot
-slot-of c = c .before .found .given .0 .0
+abbrev slot-of : tie.After-mode-and-number → Slot
+slot-of c = c .mode-and-number .result .slot
 
-abbrev start-of : tie.After-known-told → tie.Start
-start-of c = c .before .before .before .before .before .before .before .before .before .before .before .before .before
+found-at : (c : tie.After-enum-told) → let start = start-of (c .before .before) in
+    slotFor (getD (start .args .p .now) 0 0) (start .args .model-slots) ≡ At (slot-of (c .before .before))
+found-at c =
+    let named = c .before .before .mode-and-number .ensures in
+    found-by _ _ (named .0) (c .enum-told .given .1) (named .1)
 
-found-at : (c : tie.After-known-told) → let start = start-of c in
-    slotFor (getD (start .args .p .now) 0 0) (start .args .model-slots) ≡ At (slot-of c)
-found-at c = sym (c .before .before .before .find .ensures) ∙ c .before .found .given .1
+inside : (c : tie.After-enum-told) → let start = start-of (c .before .before) in
+    slot-of (c .before .before) .start + 28 * slot-of (c .before .before) .width ≤ length (start .args .models .now)
+inside c =
+    let start = start-of (c .before .before) in
+    inside-at Model (start .args .model-slots) (start .args .models .now) (getD (start .args .p .now) 0 0) (long start) (start .pre .1 .1 .1 .1) (slot-of (c .before .before)) (found-at c)
 
-spot-at : (c : tie.After-known-told) → let start = start-of c in
-    Spot Model (start .args .model-slots) (start .args .models .now) (getD (start .args .p .now) 0 0) (long start) (start .pre .1 .1 .1 .1) (slot-of c)
-spot-at c =
-    let start = start-of c in
-    spot Model (start .args .model-slots) (start .args .models .now) (getD (start .args .p .now) 0 0) (long start) (start .pre .1 .1 .1 .1) (slot-of c) (found-at c)
-
-inside-at : (c : tie.After-known-told) → let start = start-of c in
-    slot-of c .start + 28 * slot-of c .width ≤ length (start .args .models .now)
-inside-at c =
-    let start = start-of c in
-    omega (arith, spot-at c .inside, total-fits Model (start .args .model-slots) (start .args .models .now) (getD (start .args .p .now) 0 0) (long start) (start .pre .1 .1 .1 .1))
-
-at-most-requires : tie.Need-at-most-requires
-at-most-requires c κs = search needs
+mode-and-number-requires : tie.Need-mode-and-number-requires
+mode-and-number-requires c κs = search needs
 
 enum-told : tie.Need-enum-told
 enum-told c = search needs
 
-returns : tie.Need-returns
-returns c =
-    let mode = c .before .before .at-most .ensures in
-    let laws = model-mode _ _ _ _ _ _ _ (sym mode ∙ c .enum-told .given .1) in
-    (mode ∙ laws .0, laws .1)
-
 enum-told-2 : tie.Need-enum-told-2
 enum-told-2 c = search needs
 
-shared-slice-read-find : tie.Need-shared-slice-read-find
-shared-slice-read-find c = search needs
-
-find-requires : tie.Need-find-requires
-find-requires c κs = search needs
-
-enum-known-found : tie.Need-enum-known-found
-enum-known-found c = search needs
-
-enum-told-3 : tie.Need-enum-told-3
-enum-told-3 c = search needs
-
-not-held-requires : tie.Need-not-held-requires
-not-held-requires c κs = search needs
-
-returns-2 : tie.Need-returns-2
-returns-2 c =
-    let found = c .before .before .before in
-    let told = found .before .before in
-    let mode = sym (told .before .before .at-most .ensures) ∙ told .enum-told2 .given .1 in
-    let start = told .before .before .before .before .before .before .before .before in
-    let none = look-none Model (start .args .model-slots) (start .args .models .now) (getD (start .args .p .now) 0 0) (sym (found .find .ensures) ∙ c .before .enum-told3 .given .1) in
-    let laws = model-none (start .args .s) (start .args .p .now) (lookIn Texture (start .args .slots) (start .args .textures .now)) (sheet (start .args .plane .now) (start .args .depth-f32 .now)) mode in
-    rw none (c .not-held .ensures ∙ laws .0, laws .1)
+returns : tie.Need-returns
+returns c =
+    let named = c .before .before in
+    let args = start-of named .args in
+    let textures = lookIn Texture (args .slots) (args .textures .now) in
+    let v = named .mode-and-number .ensures .0 in
+    let told = c .enum-told2 .given .1 in
+    (model-refused _ _ v (hasIn textures) (args .s .matrices) (args .models .now) told, model-unpainted (args .s) _ textures _ _ (args .models .now) v told)
 
 cast-start : tie.Need-cast-start
 cast-start c = search needs
@@ -105,21 +80,17 @@ part-draw-records-start : tie.Need-part-draw-records-start
 part-draw-records-start c = search needs
 
 part-draw-records-end : tie.Need-part-draw-records-end
-part-draw-records-end c = omega (arith, inside-at (c .before .before .before .before .before))
+part-draw-records-end c = omega (arith, inside (c .before .before .before .before .before .before))
 
 draw-records-requires : tie.Need-draw-records-requires
 draw-records-requires c κs =
-    let known = c .before .before .before .before .before .before in
-    let start = start-of known in (
-      start .pre .0,
-      (
-        start .pre .1 .0,
-        (
-          start .pre .1 .1 .1 .0,
-          (part-long Model (start .args .model-slots) (start .args .models .now) 0 (slot-of known .start) (28 * slot-of known .width) (28 * slot-of known .width) refl (inside-at known), model-few (slot-of known .width) (slot-of known .height) (spot-at known .sides)),
-        ),
-      ),
-    )
+    let told = c .before .before .before .before .before .before .before in
+    let named = told .before .before in
+    let start = start-of named in
+    let slot = slot-of named in
+    let sides = sides-at Model (start .args .model-slots) (start .args .models .now) (getD (start .args .p .now) 0 0) (long start) (start .pre .1 .1 .1 .1) slot (found-at told) in
+    let words = part-long Model (start .args .model-slots) (start .args .models .now) 0 (slot .start) (28 * slot .width) (28 * slot .width) refl (inside told) in
+    (start .pre .0, (start .pre .1 .0, (start .pre .1 .1 .1 .0, (words, model-few (slot .width) (slot .height) sides))))
 
 same-length : tie.Need-same-length
 same-length c = search needs
@@ -127,33 +98,27 @@ same-length c = search needs
 same-length-2 : tie.Need-same-length-2
 same-length-2 c = search needs
 
-returns-3 : tie.Need-returns-3
-returns-3 c =
+returns-2 : tie.Need-returns-2
+returns-2 c =
     let drawn = c .before .before .before .before in
-    let known = drawn .before .before .before .before .before .before .before in
-    let told = known .before .before .before .before .before in
-    let mode = sym (told .before .before .at-most .ensures) ∙ told .enum-told2 .given .1 in
-    let start = start-of known in
-    let slot = slot-of known in
-    let some = look-some Model (start .args .model-slots) (start .args .models .now) (getD (start .args .p .now) 0 0) slot (found-at known) in
-    let part = part-is Model (start .args .model-slots) (start .args .models .now) 0 (slot .start) (28 * slot .width) (28 * slot .width) refl in
-    let laws = model-some (start .args .s) (start .args .p .now) (lookIn Texture (start .args .slots) (start .args .textures .now)) (sheet (start .args .plane .now) (start .args .depth-f32 .now)) (uploadAt Model slot (start .args .models .now)) mode in
-    rw some (rw part at (drawn .draw-records .ensures .0) ∙ laws .0, rw (← laws .1) (rw part at (drawn .draw-records .ensures .1)))
+    let told = drawn .before .before .before .before .before .before .before .before in
+    let named = told .before .before in
+    let args = start-of named .args in
+    let slot = slot-of named in
+    let textures = lookIn Texture (args .slots) (args .textures .now) in
+    let v = named .mode-and-number .ensures .0 in
+    let part = part-is Model (args .model-slots) (args .models .now) 0 (slot .start) (28 * slot .width) (28 * slot .width) refl in
+    let strokes = model-painted (args .s) (args .p .now) textures (sheet (args .plane .now) (args .depth-f32 .now)) (args .model-slots) (args .models .now) v slot (told .enum-told .given .1) (found-at told) in
+    (rw part at (drawn .draw-records .ensures .0) ∙ model-done _ _ v (hasIn textures) (args .s .matrices) (args .models .now) slot (told .enum-told .given .1) (found-at told), rw (← strokes) (rw part at (drawn .draw-records .ensures .1)))
 
 pub draw-model-spec : {M : Type 1} → statement M
 draw-model-spec =
     tie.close
     (tie.spec
-    at-most-requires
+    mode-and-number-requires
     enum-told
-    returns
     enum-told-2
-    shared-slice-read-find
-    find-requires
-    enum-known-found
-    enum-told-3
-    not-held-requires
-    returns-2
+    returns
     cast-start
     cast-count
     shared-slice-read-draw-records
@@ -166,4 +131,4 @@ draw-model-spec =
     draw-records-requires
     same-length
     same-length-2
-    returns-3)
+    returns-2)

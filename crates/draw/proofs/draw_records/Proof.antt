@@ -1,9 +1,9 @@
 -- Record after record; what is left of them completes what came before to the whole. Assumes nothing.
-use Prim.Native.Nat.{_-_, _*_, _≤_}
-use mathlib.Core.Path.{_≡_, sym, _∙_}
+use Prim.Native.Nat.{_-_}
+use mathlib.Core.Path.{_≡_}
 use native.Mathlib.Omega.{arith}
 use borrow.Author.Needs.{needs}
-use lib.ListN.{length, drop}
+use lib.ListN.{length}
 use Rattle.screen.specs.Plane.{planeBytes}
 use Rattle.screen.specs.Draw.{pixels}
 use Rattle.stroke.specs.Strokes.{sheet}
@@ -38,12 +38,12 @@ mul-triangle-of c = omega arith
 triangle-of-requires : tie.Need-triangle-of-requires Inv-loop μ-loop
 triangle-of-requires c κs = omega (arith, start-of (c .before) .pre)
 
-slice-aggregate-draw-textured-by :
-    tie.Need-slice-aggregate-draw-textured-by Inv-loop μ-loop
-slice-aggregate-draw-textured-by c = search needs
+slice-aggregate-draw-record :
+    tie.Need-slice-aggregate-draw-record Inv-loop μ-loop
+slice-aggregate-draw-record c = search needs
 
-draw-textured-by-requires : tie.Need-draw-textured-by-requires Inv-loop μ-loop
-draw-textured-by-requires c κs =
+draw-record-requires : tie.Need-draw-record-requires Inv-loop μ-loop
+draw-record-requires c κs =
     let at-loop = c .before .before .before .before .before in
     let inv = at-loop .loop .inv in
     (inv .1 .0, (inv .1 .1, (search needs, (at-loop .before .normal-matrix .ensures, start-of at-loop .pre .1 .1 .0))))
@@ -63,8 +63,8 @@ loop-again c =
     let made = drawn .before .before .before .before in
     let at-loop = made .before .before in
     let is = made .triangle-of .ensures in
-    let next = left-next _ _ _ _ _ _ _ _ _ (drawn .draw-textured-by .result) (at-loop .loop .k) (at-loop .loop .inv .0) (made .before .loop-test .taken)
-    (rw is at (drawn .draw-textured-by .ensures .0)) (rw is at (drawn .draw-textured-by .ensures .1)) in
+    let next = left-next _ _ _ _ _ _ _ _ _ (drawn .draw-record .result) (at-loop .loop .k) (at-loop .loop .inv .0) (made .before .loop-test .taken)
+    (rw is at (drawn .draw-record .ensures .0)) (rw is at (drawn .draw-record .ensures .1)) in
     (rw (c .and-then .ensures) next, (search needs, search needs))
 
 same-length : tie.Need-same-length Inv-loop μ-loop
@@ -88,8 +88,8 @@ draw-records-spec =
     loop-holds
     mul-triangle-of
     triangle-of-requires
-    slice-aggregate-draw-textured-by
-    draw-textured-by-requires
+    slice-aggregate-draw-record
+    draw-record-requires
     and-then-requires
     add-k
     loop-less

@@ -11,6 +11,14 @@ transformed-requires c κs = search needs
 enum-told : tie.Need-enum-told
 enum-told c = search needs
 
+enum-told-2 : tie.Need-enum-told-2
+enum-told-2 c = search needs
+
+returns : tie.Need-returns
+returns c =
+    let v = c .before .before .transformed .ensures .0 in
+    (v, transformed-refused _ _ _ _ _ _ (sym v ∙ c .enum-told2 .given .1))
+
 transformed-lit-requires : tie.Need-transformed-lit-requires
 transformed-lit-requires c κs = search needs
 
@@ -25,30 +33,21 @@ paint-requires c κs =
     let start = c .before .before .before .before .before .before .before .before .before .before .before .before .before .before .before in
     (start .pre .0, (start .pre .1 .0, shaded-stored _ _ _ _ (c .before .shaded-brush .ensures)))
 
-enum-told-2 : tie.Need-enum-told-2
-enum-told-2 c = search needs
-
 same-length : tie.Need-same-length
 same-length c = search needs
 
 same-length-2 : tie.Need-same-length-2
 same-length-2 c = search needs
 
-returns : tie.Need-returns
-returns c =
+returns-2 : tie.Need-returns-2
+returns-2 c =
     let drawn = c .before .before .before .before in
     let brushed = drawn .before .before in
     let lit = brushed .before .before .before in
-    let told = lit .before .before in
-    let checked = told .before .before .before in
-    let done = sym (checked .transformed .ensures .0) ∙ told .enum-told .given .1 in
-    (checked .transformed .ensures .0, transformed-done _ _ _ _ _ _ _ _ done (checked .transformed .ensures .1) (lit .transformed-lit .ensures) (brushed .shaded-brush .ensures) (drawn .paint .ensures))
-
-returns-2 : tie.Need-returns-2
-returns-2 c =
-    let checked = c .before .before .before in
-    let v = checked .transformed .ensures .0 in
-    (v, transformed-refused _ _ _ _ _ _ (sym v ∙ c .enum-told2 .given .1))
+    let told = lit .before .before .before in
+    let checked = told .before .before .transformed .ensures in
+    let done = sym (checked .0) ∙ told .enum-told .given .1 in
+    (checked .0, transformed-done _ _ _ _ _ _ _ _ done (rw (checked .0) at (checked .1)) (lit .transformed-lit .ensures) (brushed .shaded-brush .ensures) (drawn .paint .ensures))
 
 pub draw-transformed-triangle-spec : {M : Type 1} → statement M
 draw-transformed-triangle-spec =
@@ -56,12 +55,12 @@ draw-transformed-triangle-spec =
     (tie.spec
     transformed-requires
     enum-told
+    enum-told-2
+    returns
     transformed-lit-requires
     shaded-brush-requires
     slice-aggregate-paint
     paint-requires
-    enum-told-2
     same-length
     same-length-2
-    returns
     returns-2)
