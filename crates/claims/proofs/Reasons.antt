@@ -22,7 +22,7 @@ use Rattle.store.specs.Uploads.{Whole}
 use Rattle.flat.specs.Words.{signedAt, inReach, firstOut, flatVerdict}
 use Rattle.decide.specs.Corners.{colorAt, firstOf, corner, normalMatrixOf, cornersOf}
 use Rattle.decide.specs.Verdicts.{invertibleOf, heldOf, finite4, reachedOf, eachOf, inputsOf, plainVertex, plainOf, transformedBy, transformedVerdict, texturedBy, checkedVerdict, texturedVerdict, triangleOf, recordsVerdict}
-use Rattle.draw.specs.Draws.{modelVerdict}
+use Rattle.judge.specs.Judge.{modelVerdict}
 use Rattle.store.specs.declared.Kind.the-variants.{Texture, Model}
 use Rattle.execute.specs.declared.command.Setting.{Setting}
 use Rattle.execute.specs.declared.command.Setting.the-variants as setting

@@ -26,7 +26,8 @@ use Rattle.store.specs.declared.Room.the-variants.{Fits, NoSlot, NoWords}
 use Rattle.store.specs.Slots.{isFits}
 use Rattle.flat.specs.Words.{flatVerdict, triOf}
 use Rattle.decide.specs.Verdicts.{recordsVerdict, checkedVerdict, texturedVerdict, transformedVerdict}
-use Rattle.draw.specs.Draws.{transformedStrokes, heldStrokes, texturedStrokes, recordsStrokes, modelVerdict, modelStrokes, hasIn}
+use Rattle.judge.specs.Judge.{modelVerdict}
+use Rattle.draw.specs.Draws.{transformedStrokes, heldStrokes, texturedStrokes, recordsStrokes, modelStrokes, hasIn}
 use Rattle.execute.specs.Paints as paints
 use Rattle.execute.specs.Paints.{paintsOn}
 use Rattle.execute.specs.declared.command.Setting.{Setting}

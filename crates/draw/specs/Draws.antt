@@ -17,7 +17,6 @@ use Rattle.payload.specs.Words.{whenDone, wordAt, atMost}
 use Rattle.decide.specs.Corners.{corner, cornersOf}
 use Rattle.decide.specs.Verdicts.{transformedVerdict, checkedVerdict, triangleOf}
 use Rattle.lit.specs.Lit.{transformedLit, texturedLit}
-pub use Rattle.judge.specs.Judge.{modelVerdict}
 
 -- `flat_color`: "vertex 0's of the triangle before clipping"
 unfoldable pub flatColor : List ClipVertex → Color

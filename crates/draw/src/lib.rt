@@ -23,7 +23,8 @@ ghost use Rattle.store.specs.Slots.{areaOf, sidesOk, slotsOk, uploadAt, lookIn}
 ghost use Rattle.store.specs.declared.Kind.the-variants as kind;
 ghost use Rattle.decide.specs.Corners.{wordsOf, normalMatrixOf};
 ghost use Rattle.decide.specs.Verdicts.{transformedVerdict, texturedVerdict, recordsVerdict};
-ghost use Rattle.draw.specs.Draws.{flatColor, shadedBrush, transformedStrokes, texturedBrush, texturedStroke, texturedStrokes, recordsStrokes, modelVerdict, modelStrokes, hasIn};
+ghost use Rattle.draw.specs.Draws.{flatColor, shadedBrush, transformedStrokes, texturedBrush, texturedStroke, texturedStrokes, recordsStrokes, modelStrokes, hasIn};
+ghost use Rattle.judge.specs.Judge.{modelVerdict};
 
 // Vertex 0's, before clipping.
 fn flat_color(tri: [ClipVertex; 3]) -> Color

@@ -20,7 +20,8 @@ use Rattle.payload.specs.Words.{whenDone, wordAt, atMost}
 use Rattle.flat.specs.Words.{flatVerdict, triOf}
 use Rattle.stroke.specs.Strokes.{Stroke}
 use Rattle.decide.specs.Verdicts.{transformedVerdict, texturedVerdict}
-use Rattle.draw.specs.Draws.{transformedStrokes, texturedStrokes, modelVerdict, modelStrokes, hasIn}
+use Rattle.judge.specs.Judge.{modelVerdict}
+use Rattle.draw.specs.Draws.{transformedStrokes, texturedStrokes, modelStrokes, hasIn}
 use Rattle.execute.specs.declared.command.Setting.{Setting}
 use Rattle.execute.specs.declared.command.Setting.the-variants as setting
 use Rattle.execute.specs.declared.command.Draw.{Draw}
