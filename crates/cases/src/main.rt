@@ -1,32 +1,34 @@
-// Document 01's thirteen cases, malformed states clause by clause, and lent lengths one off, on the
-// compiled calls. What stands in `stdout` was written from the document.
+// Document 01's thirteen cases, malformed states clause by clause, lent lengths one off and pixel
+// reads, on the compiled calls: the table on standard input, whose head says how a line is read.
+// What is in `stdout` was written from the document.
+mod ask;
 mod inner;
+mod job;
 mod lend;
-mod lengths;
 mod mark;
 mod same;
 mod say;
-mod show;
-mod slots;
-mod states;
-mod stream;
-mod thirteen;
-mod trial;
+mod table;
 
-// One element more than the calls take, so that a length can be one too great.
+use table::Line;
+use table::MOST;
+
+// Of plane and depths one element more than the calls take, so that a length can be one too great.
 const PLANE: usize = 307201;
 
 const DEPTH: usize = 76801;
 
-const COMMAND: usize = 524292;
+const COMMAND: usize = 524291;
 
 const TEXTURES: usize = 1024;
 
-const MODELS: usize = 524328;
+const MODELS: usize = 524291;
 
-// A case of the table: a reset, its words, and what the document says of them.
+// A line: marks, its call, and what it writes.
 fn play(
-    k: usize,
+    text: &[u8],
+    l: Line,
+    words: &[u32; MOST],
     plane: &mut [u8],
     depth: &mut [i32],
     depth_f32: &mut [f32],
@@ -34,14 +36,12 @@ fn play(
     textures: &mut [u32],
     models: &mut [u32],
 ) {
-    let c = thirteen::at(k);
-    let ask = c.ask;
-    let words = c.words;
-    let s = lend::case(
-        c.marked,
-        lend::in_store(c.textures),
-        &words,
-        c.count,
+    let p = job::of(l);
+    mark::memories(p.marked, plane, depth, depth_f32, command, textures, models);
+    let seen = lend::lent(
+        p,
+        l,
+        words,
         plane,
         depth,
         depth_f32,
@@ -49,32 +49,8 @@ fn play(
         textures,
         models,
     );
-    let a = words::least(307200, plane.len());
-    let b = words::least(76800, depth.len());
-    let d = words::least(76800, depth_f32.len());
-    show::line(ask, s, &plane[..a], &depth[..b], &depth_f32[..d]);
-}
-
-// A call that is refused, or one at the limit.
-fn attempt(
-    k: usize,
-    plane: &mut [u8],
-    depth: &mut [i32],
-    depth_f32: &mut [f32],
-    command: &mut [u32],
-    textures: &mut [u32],
-    models: &mut [u32],
-) {
-    let fresh = lend::begin(true, plane, depth, depth_f32, command, textures, models);
-    let t = trial::at(k, fresh);
-    let given = t.state;
-    let fed = lend::trial(t, plane, depth, depth_f32, command, textures, models);
-    let after = fed.state;
-    let answer = fed.answer;
-    trial::report(
-        given,
-        after,
-        answer,
+    let changed = mark::changed(
+        seen.same,
         plane,
         depth,
         depth_f32,
@@ -82,9 +58,12 @@ fn attempt(
         textures,
         models,
     );
+    let lengths = p.lengths;
+    ask::write(text, seen, changed, lengths, plane, depth, depth_f32);
 }
 
-fn cases(
+fn run(
+    text: &[u8],
     plane: &mut [u8],
     depth: &mut [i32],
     depth_f32: &mut [f32],
@@ -92,14 +71,30 @@ fn cases(
     textures: &mut [u32],
     models: &mut [u32],
 ) {
-    let mut k: usize = 0;
-    while k < thirteen::CASES {
-        play(k, plane, depth, depth_f32, command, textures, models);
-        k += 1;
+    let mut words = [0u32; MOST];
+    let mut count = 0;
+    let mut at = table::skip(text, 0);
+    while at < text.len() {
+        let l = table::read(text, at, count, &mut words);
+        let end = l.end;
+        play(
+            &text[at..end],
+            l,
+            &words,
+            plane,
+            depth,
+            depth_f32,
+            command,
+            textures,
+            models,
+        );
+        count = l.count;
+        at = l.next;
     }
 }
 
-fn attempts(
+fn tabled(
+    text: &mut [u8],
     plane: &mut [u8],
     depth: &mut [i32],
     depth_f32: &mut [f32],
@@ -107,21 +102,28 @@ fn attempts(
     textures: &mut [u32],
     models: &mut [u32],
 ) {
-    let mut k: usize = 0;
-    while k < trial::TRIALS {
-        attempt(k, plane, depth, depth_f32, command, textures, models);
-        k += 1;
-    }
+    let n = io::read_full(0, text);
+    run(
+        &text[..n],
+        plane,
+        depth,
+        depth_f32,
+        command,
+        textures,
+        models,
+    );
 }
 
 fn main() {
+    let mut text = [0u8; 16384];
     let mut plane = [0u8; PLANE];
     let mut depth = [0i32; DEPTH];
     let mut depth_f32 = [0f32; DEPTH];
     let mut command = [0u32; COMMAND];
     let mut textures = [0u32; TEXTURES];
     let mut models = [0u32; MODELS];
-    cases(
+    tabled(
+        &mut text,
         &mut plane,
         &mut depth,
         &mut depth_f32,
@@ -129,15 +131,4 @@ fn main() {
         &mut textures,
         &mut models,
     );
-    inner::roots();
-    attempts(
-        &mut plane,
-        &mut depth,
-        &mut depth_f32,
-        &mut command,
-        &mut textures,
-        &mut models,
-    );
-    mark::bytes(&mut plane);
-    lengths::pixels(&plane);
 }

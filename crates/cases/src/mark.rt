@@ -7,9 +7,9 @@ pub const FLOAT: f32 = 0.25;
 
 pub const FLOAT_BITS: u32 = 0x3e80_0000;
 
-pub const WORD: u32 = 0x5a5a_5a5a;
+const WORD: u32 = 0x5a5a_5a5a;
 
-pub fn bytes(s: &mut [u8]) {
+fn bytes(s: &mut [u8]) {
     let mut i: usize = 0;
     while i < s.len() {
         s[i] = BYTE;
@@ -62,7 +62,7 @@ pub fn memories(
     words(models);
 }
 
-pub fn all_bytes(s: &[u8], v: u8) -> bool {
+fn all_bytes(s: &[u8], v: u8) -> bool {
     let mut i: usize = 0;
     while i < s.len() {
         if s[i] != v {
@@ -73,7 +73,7 @@ pub fn all_bytes(s: &[u8], v: u8) -> bool {
     true
 }
 
-pub fn all_ints(s: &[i32], v: i32) -> bool {
+fn all_ints(s: &[i32], v: i32) -> bool {
     let mut i: usize = 0;
     while i < s.len() {
         if s[i] != v {
@@ -84,7 +84,7 @@ pub fn all_ints(s: &[i32], v: i32) -> bool {
     true
 }
 
-pub fn all_floats(s: &[f32], v: u32) -> bool {
+fn all_floats(s: &[f32], v: u32) -> bool {
     let mut i: usize = 0;
     while i < s.len() {
         if ieee::bits::bits_of(s[i]) != v {
@@ -95,13 +95,50 @@ pub fn all_floats(s: &[f32], v: u32) -> bool {
     true
 }
 
-pub fn all_words(s: &[u32], v: u32) -> bool {
+fn all_words(s: &[u32]) -> bool {
     let mut i: usize = 0;
     while i < s.len() {
-        if s[i] != v {
+        if s[i] != WORD {
             return false;
         }
         i += 1;
     }
     true
+}
+
+// Are plane and depths all of these?
+pub fn all(b: u8, i: i32, f: u32, plane: &[u8], depth: &[i32], depth_f32: &[f32]) -> bool {
+    if all_bytes(plane, b) {
+        if all_ints(depth, i) {
+            return all_floats(depth_f32, f);
+        }
+    }
+    false
+}
+
+fn counted(n: u32, as_before: bool) -> u32 {
+    if as_before {
+        n
+    } else {
+        std::num::wrapping_add_u32(n, 1)
+    }
+}
+
+// How many of the state and the six memories are not as they were.
+pub fn changed(
+    same: bool,
+    plane: &[u8],
+    depth: &[i32],
+    depth_f32: &[f32],
+    command: &[u32],
+    textures: &[u32],
+    models: &[u32],
+) -> u32 {
+    let a = counted(0, same);
+    let b = counted(a, all_bytes(plane, BYTE));
+    let c = counted(b, all_ints(depth, INT));
+    let d = counted(c, all_floats(depth_f32, FLOAT_BITS));
+    let e = counted(d, all_words(command));
+    let f = counted(e, all_words(textures));
+    counted(f, all_words(models))
 }

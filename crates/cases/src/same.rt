@@ -13,7 +13,8 @@ fn both(a: bool, b: bool) -> bool {
     if a { b } else { false }
 }
 
-fn floats(a: &[f32], b: &[f32]) -> bool {
+// And was it the same before these?
+fn floats(before: bool, a: &[f32], b: &[f32]) -> bool {
     if a.len() != b.len() {
         return false;
     }
@@ -24,17 +25,16 @@ fn floats(a: &[f32], b: &[f32]) -> bool {
         }
         i += 1;
     }
-    true
+    before
 }
 
 fn light(a: Light, b: Light) -> bool {
-    let ambient = floats(&a.ambient, &b.ambient);
-    let diffuse = floats(&a.diffuse, &b.diffuse);
-    let specular = floats(&a.specular, &b.specular);
-    let emission = floats(&a.emission, &b.emission);
-    let position = floats(&a.position, &b.position);
-    let colours = both(both(ambient, diffuse), both(specular, emission));
-    both(alike(a.enabled, b.enabled), both(colours, position))
+    let enabled = alike(a.enabled, b.enabled);
+    let ambient = floats(enabled, &a.ambient, &b.ambient);
+    let diffuse = floats(ambient, &a.diffuse, &b.diffuse);
+    let specular = floats(diffuse, &a.specular, &b.specular);
+    let emission = floats(specular, &a.emission, &b.emission);
+    floats(emission, &a.position, &b.position)
 }
 
 fn lights(a: [Light; 8], b: [Light; 8]) -> bool {
@@ -49,14 +49,13 @@ fn lights(a: [Light; 8], b: [Light; 8]) -> bool {
 }
 
 fn settings(a: Settings, b: Settings) -> bool {
-    let matrices = floats(&a.matrices, &b.matrices);
-    let modes = both(
+    let mode = both(
         a.shading_mode == b.shading_mode,
         alike(a.lighting_enabled, b.lighting_enabled),
     );
     let la = a.lights;
     let lb = b.lights;
-    both(both(matrices, modes), lights(la, lb))
+    both(floats(mode, &a.matrices, &b.matrices), lights(la, lb))
 }
 
 fn slot(a: Slot, b: Slot) -> bool {

@@ -42,15 +42,14 @@ pub fn colour(c: Rgba) {
     byte(c.a);
 }
 
-pub fn place(x: usize, y: usize) {
-    text(b"(");
-    number(x as u64);
-    text(b",");
-    number(y as u64);
-    text(b")");
-}
-
-pub fn status(s: u32) {
-    text(b"status ");
-    word(s);
+pub fn amount(none: bool, all: bool) {
+    if none {
+        text(b"nothing");
+        return;
+    }
+    if all {
+        text(b"all");
+        return;
+    }
+    text(b"some");
 }

@@ -1,91 +1,60 @@
--- `cases::play`: what is shown is a part of each memory. Assumes nothing.
-use mathlib.Core.Path.{sym}
-use lib.Seq.{length-take-le}
+use mathlib.Core.Path.{_∙_}
 use borrow.Author.Needs.{needs}
 use Rattle.cases.proofs.play.Statement.{statement}
 use Rattle.cases.proofs.play.Tie as tie
 
-at-requires : tie.Need-at-requires
-at-requires c κs = search needs
+of-requires : tie.Need-of-requires
+of-requires c κs = tt
 
-in-store-requires : tie.Need-in-store-requires
-in-store-requires c κs = search needs
+memories-requires : tie.Need-memories-requires
+memories-requires c κs = tt
 
-slice-aggregate-case : tie.Need-slice-aggregate-case
-slice-aggregate-case c = search needs
+lent-requires : tie.Need-lent-requires
+lent-requires c κs = tt
 
-case-requires : tie.Need-case-requires
-case-requires c κs = search needs
+changed-requires : tie.Need-changed-requires
+changed-requires c κs = tt
 
-least-requires : tie.Need-least-requires
-least-requires c κs = search needs
+write-requires : tie.Need-write-requires
+write-requires c κs = tt
 
-least-requires-2 : tie.Need-least-requires-2
-least-requires-2 c κs = search needs
+-- Where the two calls that may change the memories are back.
+abbrev called : tie.After-write → tie.After-lent
+called c = c .before .before .before .before .before .before .before .before .before .before .before .before .before .before .before .before .before .before .before .before .before .before .before
 
-least-requires-3 : tie.Need-least-requires-3
-least-requires-3 c κs = search needs
-
-slice-reshare-prefix-line : tie.Need-slice-reshare-prefix-line
-slice-reshare-prefix-line c = search needs
-
-slice-aggregate-line : tie.Need-slice-aggregate-line
-slice-aggregate-line c = sym (length-take-le _ _ (slice-reshare-prefix-line (c .before)))
-
-slice-reshare-prefix-line-2 : tie.Need-slice-reshare-prefix-line-2
-slice-reshare-prefix-line-2 c = search needs
-
-slice-aggregate-line-2 : tie.Need-slice-aggregate-line-2
-slice-aggregate-line-2 c = sym (length-take-le _ _ (slice-reshare-prefix-line-2 (c .before)))
-
-slice-reshare-prefix-line-3 : tie.Need-slice-reshare-prefix-line-3
-slice-reshare-prefix-line-3 c = search needs
-
-slice-aggregate-line-3 : tie.Need-slice-aggregate-line-3
-slice-aggregate-line-3 c = sym (length-take-le _ _ (slice-reshare-prefix-line-3 (c .before)))
-
-line-requires : tie.Need-line-requires
-line-requires c κs = search needs
+abbrev marked : tie.After-write → tie.After-memories
+marked c = called c .before .before .before .before .before .before .before .before .before .before .before .before .before .before .before .before .before .before
 
 same-length : tie.Need-same-length
-same-length c = search needs
+same-length c = called c .lent .kept .1 .1 .1 .0 ∙ marked c .memories .kept .1 .0
 
 same-length-2 : tie.Need-same-length-2
-same-length-2 c = search needs
+same-length-2 c = called c .lent .kept .1 .1 .1 .1 .0 ∙ marked c .memories .kept .1 .1 .0
 
 same-length-3 : tie.Need-same-length-3
-same-length-3 c = search needs
+same-length-3 c = called c .lent .kept .1 .1 .1 .1 .1 .0 ∙ marked c .memories .kept .1 .1 .1 .0
 
 same-length-4 : tie.Need-same-length-4
-same-length-4 c = search needs
+same-length-4 c = called c .lent .kept .1 .1 .1 .1 .1 .1 .0 ∙ marked c .memories .kept .1 .1 .1 .1 .0
 
 same-length-5 : tie.Need-same-length-5
-same-length-5 c = search needs
+same-length-5 c = called c .lent .kept .1 .1 .1 .1 .1 .1 .1 .0 ∙ marked c .memories .kept .1 .1 .1 .1 .1 .0
 
 same-length-6 : tie.Need-same-length-6
-same-length-6 c = search needs
+same-length-6 c = called c .lent .kept .1 .1 .1 .1 .1 .1 .1 .1 .0 ∙ marked c .memories .kept .1 .1 .1 .1 .1 .1 .0
 
 returns : tie.Need-returns
-returns c = search needs
+returns c = tt
 
 pub play-spec : {M : Type 1} → statement M
 play-spec =
     tie.close
     (tie.spec
-    at-requires
-    in-store-requires
-    slice-aggregate-case
-    case-requires
-    least-requires
-    least-requires-2
-    least-requires-3
-    slice-reshare-prefix-line
-    slice-aggregate-line
-    slice-reshare-prefix-line-2
-    slice-aggregate-line-2
-    slice-reshare-prefix-line-3
-    slice-aggregate-line-3
-    line-requires
+    of-requires
+    memories-requires
+    lent-requires
+    changed-requires
+    write-requires
     same-length
     same-length-2
     same-length-3

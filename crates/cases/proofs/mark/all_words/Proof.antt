@@ -6,11 +6,11 @@ use Rattle.cases.proofs.mark.all_words.Statement.{statement}
 use Rattle.cases.proofs.mark.all_words.Tie as tie
 
 abbrev Inv-loop : tie.InvT-loop
-Inv-loop s v i₀ i =
+Inv-loop s i₀ i =
     i ≤ length s
 
 abbrev μ-loop : tie.MeasureT-loop
-μ-loop s v i₀ i = length s - i
+μ-loop s i₀ i = length s - i
 
 loop-holds : tie.Need-loop-holds Inv-loop μ-loop
 loop-holds c = search needs

@@ -1,17 +1,16 @@
--- `cases::same::floats`: the loop stays within both. Assumes nothing.
-use mathlib.Core.Path.{_≡_}
 use borrow.Author.Needs.{needs}
-use lib.ListN.{length}
 use Prim.Native.Nat.{_-_, _≤_}
+use mathlib.Core.Path.{_≡_}
+use lib.ListN.{length}
 use Rattle.cases.proofs.same.floats.Statement.{statement}
 use Rattle.cases.proofs.same.floats.Tie as tie
 
 abbrev Inv-loop : tie.InvT-loop
-Inv-loop a b i₀ i =
+Inv-loop before a b i₀ i =
     (i ≤ length a) × (length a ≡ length b)
 
 abbrev μ-loop : tie.MeasureT-loop
-μ-loop a b i₀ i = length a - i
+μ-loop before a b i₀ i = length a - i
 
 returns : tie.Need-returns Inv-loop μ-loop
 returns c = search needs
