@@ -1,5 +1,5 @@
-// What only a host with memory of its own can lend: stores of the greatest length and of one word more, and switches
-// that are neither 0 nor 1. A call that is refused must answer by number and leave the state and all memory as they
+// What only a host with memory of its own can lend: stores of the greatest length and of one word more, a command area
+// of one word more, and switches that are neither 0 nor 1. A call that is refused must answer by number and leave the state and all memory as they
 // were. Linked with the archive of the crate vpu_c; oracle/refusals builds it.
 #include <stdbool.h>
 #include <stdio.h>
@@ -25,14 +25,14 @@ static struct {
     uint8_t plane[PLANE];
     int32_t depth[PIXELS];
     float depth_f32[PIXELS];
-    uint32_t command[COMMAND], textures[MOST + 1], models[MOST + 1];
+    uint32_t command[COMMAND + 1], textures[MOST + 1], models[MOST + 1];
 } memory;
 
 typedef struct {
-    size_t plane, textures, models;
+    size_t plane, command, textures, models;
 } lengths;
 
-static const lengths GREATEST = {PLANE, MOST, MOST};
+static const lengths GREATEST = {PLANE, COMMAND, MOST, MOST};
 
 // A word that is dropped; then a clear, a texture and a model.
 static const uint32_t WORDS[] = {0, 0x04000003, 3, 0x12345678, 0, 0x17000004, 900, 1, 1, 0xf0a51234, 0x1a00001e, 900,
@@ -41,14 +41,14 @@ static const uint32_t WORDS[] = {0, 0x04000003, 3, 0x12345678, 0, 0x17000004, 90
 static const unsigned char MARK = 90;
 
 static fed reset(lengths n) {
-    return vpu_reset(memory.plane, n.plane, memory.depth, PIXELS, memory.depth_f32, PIXELS, memory.command, COMMAND,
+    return vpu_reset(memory.plane, n.plane, memory.depth, PIXELS, memory.depth_f32, PIXELS, memory.command, n.command,
                      memory.textures, n.textures, memory.models, n.models);
 }
 
 static fed feed(state s, lengths n) {
     return vpu_feed(s, WORDS, sizeof WORDS / sizeof *WORDS, memory.plane, n.plane, memory.depth, PIXELS,
-                    memory.depth_f32, PIXELS, memory.command, COMMAND, memory.textures, n.textures, memory.models,
-                    n.models);
+                    memory.depth_f32, PIXELS, memory.command, n.command, memory.textures, n.textures,
+                    memory.models, n.models);
 }
 
 // Marks in every memory, in the stores as far as `words`.
@@ -146,6 +146,17 @@ static void stores(state fresh) {
     feeds("feed, 32 textures that fill 16777216, in 16777215", filled, shorter, 2);
 }
 
+// One word too few is tried by a program under the gate; one too many does not fit it.
+static void command_area(state fresh) {
+    state bad = fresh;
+    bad.opcode = 256;
+    lengths longer = GREATEST;
+    longer.command++;
+    resets("reset, command area 524292", &fresh, longer, 1);
+    feeds("feed, command area 524292", fresh, longer, 1);
+    feeds("feed, malformed, command area 524292", bad, longer, 1);
+}
+
 // Each switch by its number: lighting, eight lights, 64 textures, 64 models.
 enum { SWITCHES = 1 + 8 + 64 + 64 };
 
@@ -170,7 +181,7 @@ static int refused(state fresh, uint8_t value, lengths n, uint32_t expected) {
 }
 
 static void switches(state fresh, uint8_t value) {
-    lengths right = {PLANE, SMALL, SMALL}, off = {PLANE - 1, SMALL, SMALL};
+    lengths right = {PLANE, COMMAND, SMALL, SMALL}, off = {PLANE - 1, COMMAND, SMALL, SMALL};
     int malformed = refused(fresh, value, right, 2), lent = refused(fresh, value, off, 1);
     printf("switches at %d: %d of %d answer 2, nothing changed\n", value, malformed, SWITCHES);
     printf("switches at %d, plane 307199: %d of %d answer 1, nothing changed\n", value, lent, SWITCHES);
@@ -191,6 +202,7 @@ static void switched_on(state s) {
 int main(void) {
     state fresh = reset(GREATEST).state;
     stores(fresh);
+    command_area(fresh);
     switches(fresh, 2);
     switches(fresh, 255);
     switched_on(fresh);
