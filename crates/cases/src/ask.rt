@@ -1,14 +1,14 @@
 // What a line writes, with each part in braces replaced by what it asks.
 use crate::inner;
-use crate::mark;
-use crate::same;
-use crate::say;
-use crate::table;
-use crate::table::Op;
 use screen::plane::Read;
 use screen::plane::Rgba;
 use state::State;
 use store::Slot;
+use trial::line;
+use trial::line::Op;
+use trial::mark;
+use trial::same;
+use trial::say;
 use vpu::Answer;
 use vpu::Fed;
 use words::least;
@@ -39,12 +39,13 @@ pub fn told(given: State, fed: Fed) -> Seen {
     let a = t[0];
     let b = t[1];
     let c = t[2];
+    let notes = s.notes;
     Seen {
         answer: number_of(answer),
         same: same::state(given, s),
         opcode: s.opcode,
         wanted: s.wanted,
-        status: s.status,
+        status: notes.status,
         slots: [a, b, c],
     }
 }
@@ -192,12 +193,12 @@ pub fn write(
     let c = least(lengths[2], depth_f32.len());
     let mut at = 0;
     while at < text.len() {
-        let open = table::find(text, at, text.len(), b'{');
-        let close = table::find(text, open, text.len(), b'}');
+        let open = line::find(text, at, text.len(), b'{');
+        let close = line::find(text, open, text.len(), b'}');
         say::text(&text[at..open]);
         if open < close {
             value(
-                table::op_in(&text[open..close]),
+                line::op_in(&text[open..close]),
                 seen,
                 changed,
                 &plane[..a],

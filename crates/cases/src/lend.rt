@@ -1,11 +1,11 @@
 // The calls, each lent as much of the memories as it is told.
 use crate::ask;
 use crate::ask::Seen;
-use crate::job;
-use crate::job::Plan;
-use crate::table::Line;
-use crate::table::MOST;
 use state::State;
+use trial::job;
+use trial::job::Plan;
+use trial::line::Line;
+use trial::line::MOST;
 use words::least;
 ghost use Prim.Native.Nat.{_≤_};
 

@@ -3,15 +3,13 @@
 // What is in `stdout` was written from the document.
 mod ask;
 mod inner;
-mod job;
 mod lend;
-mod mark;
-mod same;
-mod say;
-mod table;
 
-use table::Line;
-use table::MOST;
+use trial::job;
+use trial::line;
+use trial::line::Line;
+use trial::line::MOST;
+use trial::mark;
 
 // Of plane and depths one element more than the calls take, so that a length can be one too great.
 const PLANE: usize = 307201;
@@ -73,9 +71,9 @@ fn run(
 ) {
     let mut words = [0u32; MOST];
     let mut count = 0;
-    let mut at = table::skip(text, 0);
+    let mut at = line::skip(text, 0);
     while at < text.len() {
-        let l = table::read(text, at, count, &mut words);
+        let l = line::read(text, at, count, &mut words);
         let end = l.end;
         play(
             &text[at..end],

@@ -1,15 +1,15 @@
--- Two ways of keeping uploads that answer alike give machines that are seen alike, word by word: the same settings, status and command begun, and the same paints, so the same picture. Assumes nothing.
+-- Two ways of keeping uploads that answer alike give machines that are seen alike, word by word: the same settings, notes and command begun, and the same paints, so the same picture. Assumes nothing.
 use Prim.Native.Nat.{ℕ, suc, _+_, _-_, _/_, _%_, _≤_, _<_}
-use mathlib.Core.Path.{_≡_, refl, ap}
+use mathlib.Core.Path.{_≡_, refl, ap, _∙_}
 use mathlib.Core.Bool.{Bool, true, false, cond}
 use mathlib.Core.Option.{Option, none, some}
 use mathlib.Core.List.{List, [], _∷_}
 use native.Mathlib.Omega.{arith}
-use lib.Bits.{bitOr}
 use lib.Dec.{eqb, ltb}
 use lib.ListN.{length}
 use borrow.Author.Tests.{eqb-true, eqb-false, ltb-false}
-use Rattle.verdict.specs.Verdict.{bitsOf}
+use Rattle.verdict.specs.Verdict.{notedOf}
+use Rattle.verdict.specs.declared.Notes.{Notes}
 use Rattle.verdict.specs.declared.Reason.the-variants.{ZeroOpcode, CountTooLarge}
 use Rattle.verdict.specs.declared.Verdict.{Verdict}
 use Rattle.verdict.specs.declared.Verdict.the-variants.{Refused}
@@ -36,7 +36,7 @@ pub record Alike {X Y : Type 0} (K : Keep X) (P : Keep Y) (Rel : X → Y → Typ
 -- two controls that are seen alike, with what a begun command has yet to come within the command area
 pub record Same {X Y : Type 0} (P : Keep Y) (Rel : X → Y → Type 0) (c : Control X) (d : Control Y) : Type 0 where
   pub settings : c .settings ≡ d .settings
-  pub status : c .status ≡ d .status
+  pub notes : c .notes ≡ d .notes
   pub opcode : c .opcode ≡ d .opcode
   pub wanted : c .wanted ≡ d .wanted
   pub box : Rel (c .box) (d .box)
@@ -68,12 +68,15 @@ module _ {X Y : Type 0} {K : Keep X} {P : Keep Y} {Rel : X → Y → Type 0} (A 
       go NoSlot e = h
       go NoWords e = h
 
-  ended-same : (c : Control X) (d : Control Y) → c .status ≡ d .status → Rel (c .box) (d .box) → (t : Told) → Passed (t .load) → Same P Rel (ended K c t) (ended P d t)
-  ended-same c d s h t q =
+  noted-same : {n m : Notes} {o p : ℕ} {v u : Verdict} → n ≡ m → o ≡ p → v ≡ u → notedOf n o v ≡ notedOf m p u
+  noted-same {n} {m} {o} {p} {v} {u} a b c = ap (λ (x : Notes). notedOf x o v) a ∙ ap (λ (x : ℕ). notedOf m x v) b ∙ ap (notedOf m p) c
+
+  ended-same : (c : Control X) (d : Control Y) → c .notes ≡ d .notes → c .opcode ≡ d .opcode → Rel (c .box) (d .box) → (t : Told) → Passed (t .load) → Same P Rel (ended K c t) (ended P d t)
+  ended-same c d s o h t q =
       let none-left : length (P .payload (P .clear (keptOf P (d .box) (t .load)))) ≡ 0 = A .clear-length (keptOf P (d .box) (t .load)) in
       record {
         settings = refl;
-        status = rw (s, verdict-same (c .box) (d .box) h t (t .load));
+        notes = noted-same s o (verdict-same (c .box) (d .box) h t (t .load));
         opcode = refl;
         wanted = refl;
         box = A .clear-kept _ _ (kept-same (c .box) (d .box) h (t .load) q);
@@ -81,7 +84,7 @@ module _ {X Y : Type 0} {K : Keep X} {P : Keep Y} {Rel : X → Y → Type 0} (A 
         idle = λ z. none-left;
       }
 
-  pub execute-same : (c : Control X) (d : Control Y) → c .settings ≡ d .settings → c .status ≡ d .status → c .opcode ≡ d .opcode → Rel (c .box) (d .box)
+  pub execute-same : (c : Control X) (d : Control Y) → c .settings ≡ d .settings → c .notes ≡ d .notes → c .opcode ≡ d .opcode → Rel (c .box) (d .box)
       → length (P .payload (d .box)) ≤ mostPayload → Steps P Rel (execute K c) (execute P d)
   unfolding execute
   execute-same c d a b o h short =
@@ -89,7 +92,7 @@ module _ {X Y : Type 0} {K : Keep X} {P : Keep Y} {Rel : X → Y → Type 0} (A 
       let same : told (K .look (c .box)) (c .settings) (c .opcode) (K .payload (c .box)) ≡ t = rw (A .look-same (c .box) (d .box) h, a, o, A .payload-same (c .box) (d .box) h) in
       rw same
       (record {
-        control = ended-same c d b h t (load-passed (d .settings) (P .payload (d .box)) short (d .opcode) (P .look (d .box)));
+        control = ended-same c d b o h t (load-passed (d .settings) (P .payload (d .box)) short (d .opcode) (P .look (d .box)));
         paints = refl;
       })
 
@@ -98,9 +101,9 @@ module _ {X Y : Type 0} {K : Keep X} {P : Keep Y} {Rel : X → Y → Type 0} (A 
   either true p q = p refl
   either false p q = q refl
 
-  dropped-same : (c : Control X) (d : Control Y) (v : Verdict) → Same P Rel c d → Steps P Rel (dropped K c v) (dropped P d v)
-  dropped-same c d v s = record {
-    control = record { settings = s .settings; status = ap (λ (x : ℕ). bitOr x (bitsOf v)) (s .status); opcode = s .opcode; wanted = s .wanted; box = s .box; bound = s .bound; idle = s .idle };
+  dropped-same : (c : Control X) (d : Control Y) (op : ℕ) (v : Verdict) → Same P Rel c d → Steps P Rel (dropped K c op v) (dropped P d op v)
+  dropped-same c d op v s = record {
+    control = record { settings = s .settings; notes = ap (λ (x : Notes). notedOf x op v) (s .notes); opcode = s .opcode; wanted = s .wanted; box = s .box; bound = s .bound; idle = s .idle };
     paints = refl;
   }
 
@@ -108,11 +111,11 @@ module _ {X Y : Type 0} {K : Keep X} {P : Keep Y} {Rel : X → Y → Type 0} (A 
   unfolding header
   header-same c d op n s z =
       let nothing : length (P .payload (d .box)) ≡ 0 = s .idle z in
-      either (eqb op 0) (λ e. dropped-same c d (Refused ZeroOpcode 0) s)
-      (λ e. either (ltb mostPayload n) (λ f. dropped-same c d (Refused CountTooLarge 0) s)
-      (λ f. either (eqb n 0) (λ g. execute-same (begun K c op 0) (begun P d op 0) (s .settings) (s .status) refl (s .box) (omega arith))
+      either (eqb op 0) (λ e. dropped-same c d op (Refused ZeroOpcode 0) s)
+      (λ e. either (ltb mostPayload n) (λ f. dropped-same c d op (Refused CountTooLarge 0) s)
+      (λ f. either (eqb n 0) (λ g. execute-same (begun K c op 0) (begun P d op 0) (s .settings) (s .notes) refl (s .box) (omega arith))
       (λ g. record {
-        control = record { settings = s .settings; status = s .status; opcode = refl; wanted = refl; box = s .box; bound = omega (arith, ltb-false mostPayload n f); idle = λ y. absurd (eqb-false n 0 g y) };
+        control = record { settings = s .settings; notes = s .notes; opcode = refl; wanted = refl; box = s .box; bound = omega (arith, ltb-false mostPayload n f); idle = λ y. absurd (eqb-false n 0 g y) };
         paints = refl;
       })))
 
@@ -123,11 +126,11 @@ module _ {X Y : Type 0} {K : Keep X} {P : Keep Y} {Rel : X → Y → Type 0} (A 
       let longer : length (P .payload (P .add w (d .box))) ≡ suc (length (P .payload (d .box))) = A .add-length w (d .box) in
       let more : Rel (K .add w (c .box)) (P .add w (d .box)) = A .add-kept w (c .box) (d .box) (s .box) below in
       rw (ap (λ (x : ℕ). eqb x 1) (s .wanted))
-      (either (eqb (d .wanted) 1) (λ e. execute-same (taken K c w) (taken P d w) (s .settings) (s .status) (s .opcode) more (omega arith))
+      (either (eqb (d .wanted) 1) (λ e. execute-same (taken K c w) (taken P d w) (s .settings) (s .notes) (s .opcode) more (omega arith))
       (λ e. record {
         control = record {
           settings = s .settings;
-          status = s .status;
+          notes = s .notes;
           opcode = s .opcode;
           wanted = ap (λ (x : ℕ). x - 1) (s .wanted);
           box = more;

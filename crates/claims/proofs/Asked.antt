@@ -155,13 +155,13 @@ ruled size h l = room (size (l .kind)) (cards (live (history h (l .kind)))) (l .
 
 -- one that passed its checks: bit 6, 64, exactly where the rule says "no room", and else it is the newest of the history
 pub upload-ruled : (size : Kind → ℕ) (c : Control Past) (l : Load) → told (asPast size .look (c .box)) (c .settings) (c .opcode) (c .box .payload) .load ≡ some l
-    → (execute (asPast size) c .control .status ≡ cond (isFits (ruled size (c .box) l)) (bitOr (c .status) 0) (bitOr (c .status) 64))
+    → (execute (asPast size) c .control .notes .status ≡ cond (isFits (ruled size (c .box) l)) (bitOr (c .notes .status) 0) (bitOr (c .notes .status) 64))
     × ((k : Kind) → history (execute (asPast size) c .control .box) k ≡ cond (isFits (ruled size (c .box) l)) (history (accepted (c .box) (l .kind) (l .whole)) k) (history (c .box) k))
 unfolding execute
 upload-ruled size c l e = rw e (go (ruled size (c .box) l))
   where
     go : (r : Room)
-        → (bitOr (c .status) (bitsOf (roomVerdict r)) ≡ cond (isFits r) (bitOr (c .status) 0) (bitOr (c .status) 64))
+        → (bitOr (c .notes .status) (bitsOf (roomVerdict r)) ≡ cond (isFits r) (bitOr (c .notes .status) 0) (bitOr (c .notes .status) 64))
         × ((k : Kind) → history (asPast size .clear (cond (isFits r) (accepted (c .box) (l .kind) (l .whole)) (c .box))) k ≡ cond (isFits r) (history (accepted (c .box) (l .kind) (l .whole)) k) (history (c .box) k))
     go Fits = (refl, λ k. cleared (accepted (c .box) (l .kind) (l .whole)) k)
     go NoSlot = (refl, λ k. cleared (c .box) k)
@@ -184,7 +184,7 @@ pub record Lower (before after : ℕ) : Type 0 where
   pub is : after ≡ bitOr before (bitsOf verdict)
 
 pub others-low : (size : Kind → ℕ) (c : Control Past) → told (asPast size .look (c .box)) (c .settings) (c .opcode) (c .box .payload) .load ≡ none
-    → Lower (c .status) (execute (asPast size) c .control .status)
+    → Lower (c .notes .status) (execute (asPast size) c .control .notes .status)
 unfolding execute
 others-low size c e =
     let t : Told = told (asPast size .look (c .box)) (c .settings) (c .opcode) (c .box .payload) in

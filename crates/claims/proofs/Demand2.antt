@@ -161,7 +161,7 @@ module _ (size : Kind → ℕ) where
     picture : m .picture ≡ v .picture
     settings : m .control .settings ≡ v .settings
     uploads : K .look (m .control .box) ≡ v .uploads
-    status : m .control .status ≡ v .status
+    status : m .control .notes .status ≡ v .status
     begun : Begun (m .control) v
 
   record Goes (p : Picture) (s : Step Past) (v : Vpu) : Type 0 where
@@ -184,8 +184,8 @@ module _ (size : Kind → ℕ) where
   module _ (m : Seen Past) (v : Vpu) (a : Agree m v) where
     -- a command of the domain, begun or gathered on these
     execute-agrees : (op n : ℕ) (h : Past) (command : List ℕ) (left : ℕ) → K .look h ≡ K .look (m .control .box) → command ≡ op ∷ h .payload
-        → Within size (record { settings = m .control .settings; status = m .control .status; opcode = op; wanted = n; box = h })
-        → Goes (m .picture) (control.execute K (record { settings = m .control .settings; status = m .control .status; opcode = op; wanted = n; box = h })) (execute (waiting v command left))
+        → Within size (record { settings = m .control .settings; notes = m .control .notes; opcode = op; wanted = n; box = h })
+        → Goes (m .picture) (control.execute K (record { settings = m .control .settings; notes = m .control .notes; opcode = op; wanted = n; box = h })) (execute (waiting v command left))
     unfolding control.execute execute
     execute-agrees op n h command left looks e d =
         let t : Told = told (K .look h) (m .control .settings) op (h .payload) in
@@ -197,15 +197,15 @@ module _ (size : Kind → ℕ) where
             settings = refl;
             uploads = kept-same size h (t .load) (d .fits) ∙ ap (λ (x : Look). kept x (t .load)) (looks ∙ a .uploads);
             status =
-                status-same size h (m .control .status) t (third (K .look h) (m .control .settings) op (h .payload)) (load-done (K .look h) (m .control .settings) op (h .payload)) (d .fits)
+                status-same size h (m .control .notes .status) t (third (K .look h) (m .control .settings) op (h .payload)) (load-done (K .look h) (m .control .settings) op (h .payload)) (d .fits)
                 ∙ ap (λ (x : ℕ). whenDone (t .verdict) x (bitOr x 8)) (a .status);
             begun = idle refl refl refl;
           };
         })
 
-    dropped-agrees : (w : Verdict) (bit : ℕ) → bitsOf w ≡ bit → Begun (dropped K (m .control) w .control) (marked v bit) → Goes (m .picture) (dropped K (m .control) w) (marked v bit)
+    dropped-agrees : (op : ℕ) (w : Verdict) (bit : ℕ) → bitsOf w ≡ bit → Begun (dropped K (m .control) op w .control) (marked v bit) → Goes (m .picture) (dropped K (m .control) op w) (marked v bit)
     unfolding paintsOn
-    dropped-agrees w bit e b = record { goes = record { picture = a .picture; settings = a .settings; uploads = a .uploads; status = rw (a .status, e); begun = b } }
+    dropped-agrees op w bit e b = record { goes = record { picture = a .picture; settings = a .settings; uploads = a .uploads; status = rw (a .status, e); begun = b } }
 
     header-agrees : (w : ℕ) → m .control .wanted ≡ 0 → m .control .box .payload ≡ [] → v .expected ≡ none → Goes (m .picture) (word K (m .control) w) (pump v w none)
     unfolding word header await paintsOn
@@ -213,8 +213,8 @@ module _ (size : Kind → ℕ) where
         let op : ℕ = w / 16777216 in
         let n : ℕ = w % 16777216 in
         rw (eq-eqb (m .control .wanted) 0 z)
-        (by-test (eqb op 0) (λ e. dropped-agrees (Refused ZeroOpcode 0) 4 refl (idle z p x))
-        (λ e. by-test (ltb mostPayload n) (λ f. dropped-agrees (Refused CountTooLarge 0) 8 refl (idle z p x))
+        (by-test (eqb op 0) (λ e. dropped-agrees op (Refused ZeroOpcode 0) 4 refl (idle z p x))
+        (λ e. by-test (ltb mostPayload n) (λ f. dropped-agrees op (Refused CountTooLarge 0) 8 refl (idle z p x))
         (λ f. by-test (eqb n 0) (λ g. execute-agrees op 0 (m .control .box) (op ∷ []) n refl (rw p) (empty-within _ p))
         (λ g. record { goes = record { picture = a .picture; settings = a .settings; uploads = a .uploads; status = a .status; begun = busy (eqb-false n 0 g) refl (rw p) } }))))
 
@@ -293,23 +293,23 @@ module _ (P : List ℕ) (D : List ℤ) (F : List Float) (C T M : List ℕ) (done
   -- "after each call": of any calls in the domain, and so of those that began them, by `domain-begins`
   pub demand2 : (wss : List (List ℕ)) → InDomain (sizes T M) (flatten wss)
       → (afterAll (reset P D F C T M .machine) (calls wss) .picture ≡ pushes new (flatten wss) .picture)
-      × (afterAll (reset P D F C T M .machine) (calls wss) .control .status ≡ pushes new (flatten wss) .status)
+      × (afterAll (reset P D F C T M .machine) (calls wss) .control .notes .status ≡ pushes new (flatten wss) .status)
   demand2 wss d =
       let plain = demand3 P D F C T M done (calls wss) (allowed wss (reset P D F C T M .machine) (d .0)) in
       let o = run-agrees (sizes T M) (flatten wss) plainStart new (start-agrees (sizes T M)) (d .1) in
       let n = plain-calls (sizes T M) wss plainStart in
-      (plain .0 ∙ ap (λ (m : Seen Past). m .picture) n ∙ o .picture, plain .1 ∙ ap (λ (m : Seen Past). m .control .status) n ∙ o .status)
+      (plain .0 ∙ ap (λ (m : Seen Past). m .picture) n ∙ o .picture, plain .1 ∙ ap (λ (m : Seen Past). m .control .notes .status) n ∙ o .status)
 
   -- "after each call", whatever words come after it
   pub demand2-each : (wss : List (List ℕ)) (rest : List ℕ) → InDomain (sizes T M) (flatten wss ++ rest)
       → (afterAll (reset P D F C T M .machine) (calls wss) .picture ≡ pushes new (flatten wss) .picture)
-      × (afterAll (reset P D F C T M .machine) (calls wss) .control .status ≡ pushes new (flatten wss) .status)
+      × (afterAll (reset P D F C T M .machine) (calls wss) .control .notes .status ≡ pushes new (flatten wss) .status)
   demand2-each wss rest d = demand2 wss (domain-begins (sizes T M) (flatten wss) rest d)
 
   -- and word by word
   pub demand2-words : (ws : List ℕ) → InDomain (sizes T M) ws
       → (afterAll (reset P D F C T M .machine) (calls (singles ws)) .picture ≡ pushes new ws .picture)
-      × (afterAll (reset P D F C T M .machine) (calls (singles ws)) .control .status ≡ pushes new ws .status)
+      × (afterAll (reset P D F C T M .machine) (calls (singles ws)) .control .notes .status ≡ pushes new ws .status)
   demand2-words ws d = rw (singles-flat ws) at (demand2 (singles ws) (rw (singles-flat ws) d))
 
 -- a reset in the midst of a run, which is answered 0: whatever calls came before it, in the domain or not
@@ -317,5 +317,5 @@ pub demand2-again : (P : List ℕ) (D : List ℤ) (F : List Float) (C T M : List
     → AllAllowed (reset P D F C T M .machine) cs → (wss : List (List ℕ))
     → InDomain (sizes (afterAll (reset P D F C T M .machine) cs .control .box .textures .words) (afterAll (reset P D F C T M .machine) cs .control .box .models .words)) (flatten wss)
     → (afterAll (resetOn (afterAll (reset P D F C T M .machine) cs) .machine) (calls wss) .picture ≡ pushes new (flatten wss) .picture)
-    × (afterAll (resetOn (afterAll (reset P D F C T M .machine) cs) .machine) (calls wss) .control .status ≡ pushes new (flatten wss) .status)
+    × (afterAll (resetOn (afterAll (reset P D F C T M .machine) cs) .machine) (calls wss) .control .notes .status ≡ pushes new (flatten wss) .status)
 demand2-again P D F C T M done cs before = demand2 _ _ _ _ _ _ (reset-again P D F C T M done cs before)

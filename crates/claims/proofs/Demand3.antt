@@ -10,6 +10,7 @@ use lib.ListN.{length, replicate, length-replicate}
 use borrow.Author.Tests.{le-leb, ne-eqb}
 use Rattle.screen.specs.Plane.{planeBytes}
 use Rattle.screen.specs.Draw.{pixels}
+use Rattle.verdict.specs.declared.Notes.{Notes}
 use Rattle.store.specs.declared.Kind.{Kind}
 use Rattle.store.specs.declared.Kind.the-variants.{Texture, Model}
 use Rattle.store.specs.declared.Slot.{Slot}
@@ -111,7 +112,7 @@ module _ (size : Kind → ℕ) (P : List ℕ) (D : List ℤ) (F : List Float) (C
         shown = record {
           control = record {
             settings = refl;
-            status = refl;
+            notes = refl;
             opcode = refl;
             wanted = refl;
             box = record {
@@ -220,10 +221,10 @@ module _ (P : List ℕ) (D : List ℤ) (F : List Float) (C T M : List ℕ) (done
   -- of words alone, in one call: no upload is moved, and none of the history dropped
   pub words-alike : (ws : List ℕ)
       → (run asBox (reset P D F C T M .machine) ws .picture ≡ run (asPast (sizes T M)) plainStart ws .picture)
-      × (run asBox (reset P D F C T M .machine) ws .control .status ≡ run (asPast (sizes T M)) plainStart ws .control .status)
+      × (run asBox (reset P D F C T M .machine) ws .control .notes .status ≡ run (asPast (sizes T M)) plainStart ws .control .notes .status)
   words-alike ws =
       let s = words-shown (sizes T M) refl refl ws in
-      (s .picture, s .control .status)
+      (s .picture, ap (λ (n : Notes). n .status) (s .control .notes))
 
   -- after each call: any list of calls, so any beginning of it
   module _ (cs : List Call) (calls : AllAllowed (reset P D F C T M .machine) cs) where
@@ -232,8 +233,8 @@ module _ (P : List ℕ) (D : List ℤ) (F : List Float) (C T M : List ℕ) (done
 
     -- "plane, both depth buffers and status are those of a plain machine"
     pub demand3 : (afterAll (reset P D F C T M .machine) cs .picture ≡ plainAll (sizes T M) plainStart cs .picture)
-        × (afterAll (reset P D F C T M .machine) cs .control .status ≡ plainAll (sizes T M) plainStart cs .control .status)
-    demand3 = (runs-all .shown .picture, runs-all .shown .control .status)
+        × (afterAll (reset P D F C T M .machine) cs .control .notes .status ≡ plainAll (sizes T M) plainStart cs .control .notes .status)
+    demand3 = (runs-all .shown .picture, ap (λ (n : Notes). n .status) (runs-all .shown .control .notes))
 
     -- a call with the state as returned and the same buffers is answered 0
     pub fed-done : (ws : List ℕ) → feedOn (afterAll (reset P D F C T M .machine) cs) ws .answer ≡ 0

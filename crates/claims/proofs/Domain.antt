@@ -106,6 +106,6 @@ pub not-minus-8193 : (size : Kind → ℕ) → InDomain size (stream 0xffff_dfff
 not-minus-8193 size d = let h : 8193 ≤ 8192 = near-only size 0xffff_dfff d in omega arith
 
 -- outside they differ: the original draws it and is content, and the port refuses it
-pub beyond : (size : Kind → ℕ) → (pushes new (clear ++ triangle 8193) .status ≡ 0) × (run (asPast size) plainStart (clear ++ triangle 8193) .control .status ≡ 8)
+pub beyond : (size : Kind → ℕ) → (pushes new (clear ++ triangle 8193) .status ≡ 0) × (run (asPast size) plainStart (clear ++ triangle 8193) .control .notes .status ≡ 8)
 unfolding pushes push await execute arm run word header gather control.execute told commandOf paintedBy clearPainted flatPainted flatVerdict inReach
 beyond size = (refl, refl)

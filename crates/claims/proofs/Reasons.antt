@@ -1,7 +1,7 @@
 -- Which reasons a command's checks give: what holds of "done" and of each of the first eight reasons holds of every verdict but a full store's. Assumes nothing.
 use Prim.Native.Nat.{ℕ, zero, suc, _+_}
 use mathlib.Core.Path.{refl}
-use mathlib.Core.Bool.{Bool, true, false, cond}
+use mathlib.Core.Bool.{Bool, true, false}
 use mathlib.Core.Option.{Option, none, some}
 use mathlib.Core.List.{List, [], _∷_}
 use lib.Dec.{eqb, leb, ltb}
@@ -32,11 +32,7 @@ use Rattle.execute.specs.declared.command.Command.{Command}
 use Rattle.execute.specs.declared.command.Command.the-variants.{Sets, Loads, Paints, Unknown}
 use Rattle.execute.specs.Commands.{Look, Painted, refused, unknown, wrongLength, commandOf, settingWords, setBy, settingsAfter, textureVerdict, countVerdict, clearPainted, flatPainted, transformedPainted, texturedPainted, modelPainted, drawWords, drawnBy, paintedBy, toldAs, told}
 use Rattle.execute.proofs.Told.{told-as}
-
--- what holds in both cases of a test
-pub either : {A : Type 0} (R : A → Type 0) (b : Bool) (x y : A) → R x → R y → R (cond b x y)
-either R true x y p q = p
-either R false x y p q = q
+use Rattle.laws.proofs.Bools.{either}
 
 module _ (Q : Verdict → Type 0) (done : Q Done) (range : (i : ℕ) → Q (Refused OutOfRange i)) (float : (i : ℕ) → Q (Refused NotFinite i)) (matrix : Q (Refused NotInvertible 0)) where
   then-so : (v w : Verdict) → Q v → Q w → Q (andThen v w)

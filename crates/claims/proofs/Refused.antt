@@ -41,7 +41,7 @@ use Rattle.execute.specs.Control.{Keep, Control, Seen, roomVerdict, verdictOf, 
 use Rattle.execute.specs.Kept.{Box, box, asBox}
 use Rattle.execute.proofs.Told.{told-as, command-of-04, command-of-1b, clear-opcode, model-opcode}
 use Rattle.execute.proofs.Painted.{painted-whole, painted-short}
-use Rattle.claims.proofs.Reasons.{either}
+use Rattle.laws.proofs.Bools.{either}
 use Rattle.claims.proofs.Status.{toldIn, verdictIn}
 
 -- refused, for whatever reason
@@ -126,7 +126,7 @@ module _ (s : Settings) (p : List ℕ) where
 pub record Left {X : Type 0} (K : Keep X) (c : Control X) (r : Reason) : Type 0 where
   pub settings : execute K c .control .settings ≡ c .settings
   pub uploads : execute K c .control .box ≡ K .clear (c .box)
-  pub status : execute K c .control .status ≡ bitOr (c .status) (bitFor (numberOf r))
+  pub status : execute K c .control .notes .status ≡ bitOr (c .notes .status) (bitFor (numberOf r))
   pub opcode : execute K c .control .opcode ≡ 0
   pub wanted : execute K c .control .wanted ≡ 0
 

@@ -31,7 +31,7 @@ pub record Sets (before after : ℕ) : Type 0 where
 same : (s : ℕ) → Sets s s
 same s = record { verdict = Done; is = sym (or-zero-r s) }
 
-either : {X : Type 0} (s : ℕ) (b : Bool) (x y : Step X) → Sets s (x .control .status) → Sets s (y .control .status) → Sets s (cond b x y .control .status)
+either : {X : Type 0} (s : ℕ) (b : Bool) (x y : Step X) → Sets s (x .control .notes .status) → Sets s (y .control .notes .status) → Sets s (cond b x y .control .notes .status)
 either s true x y p q = p
 either s false x y p q = q
 
@@ -43,18 +43,18 @@ module _ {X : Type 0} (K : Keep X) where
   abbrev pub verdictIn : Control X → Verdict
   verdictIn c = verdictOf K (c .box) (toldIn c) (toldIn c .load)
 
-  execute-sets : (c : Control X) → Sets (c .status) (execute K c .control .status)
+  execute-sets : (c : Control X) → Sets (c .notes .status) (execute K c .control .notes .status)
   unfolding execute
   execute-sets c = record { verdict = verdictIn c; is = refl }
 
-  pub word-sets : (c : Control X) (w : ℕ) → Sets (c .status) (word K c w .control .status)
+  pub word-sets : (c : Control X) (w : ℕ) → Sets (c .notes .status) (word K c w .control .notes .status)
   unfolding word header gather
   word-sets c w =
-      either (c .status) (eqb (c .wanted) 0) _ _
-      (either (c .status) (eqb (w / 16777216) 0) (dropped K c (Refused ZeroOpcode 0)) _ (record { verdict = Refused ZeroOpcode 0; is = refl })
-      (either (c .status) (ltb mostPayload (w % 16777216)) (dropped K c (Refused CountTooLarge 0)) _ (record { verdict = Refused CountTooLarge 0; is = refl })
-      (either (c .status) (eqb (w % 16777216) 0) (execute K (begun K c (w / 16777216) 0)) (still K (begun K c (w / 16777216) (w % 16777216))) (execute-sets (begun K c (w / 16777216) 0)) (same (c .status)))))
-      (either (c .status) (eqb (c .wanted) 1) (execute K (taken K c w)) (still K (taken K c w)) (execute-sets (taken K c w)) (same (c .status)))
+      either (c .notes .status) (eqb (c .wanted) 0) _ _
+      (either (c .notes .status) (eqb (w / 16777216) 0) (dropped K c (w / 16777216) (Refused ZeroOpcode 0)) _ (record { verdict = Refused ZeroOpcode 0; is = refl })
+      (either (c .notes .status) (ltb mostPayload (w % 16777216)) (dropped K c (w / 16777216) (Refused CountTooLarge 0)) _ (record { verdict = Refused CountTooLarge 0; is = refl })
+      (either (c .notes .status) (eqb (w % 16777216) 0) (execute K (begun K c (w / 16777216) 0)) (still K (begun K c (w / 16777216) (w % 16777216))) (execute-sets (begun K c (w / 16777216) 0)) (same (c .notes .status)))))
+      (either (c .notes .status) (eqb (c .wanted) 1) (execute K (taken K c w)) (still K (taken K c w)) (execute-sets (taken K c w)) (same (c .notes .status)))
 
 -- ---- the bits that verdicts have
 bit-half : (k n : ℕ) → bit (suc k) n ≡ bit k (n / 2)
@@ -122,25 +122,25 @@ then-stay x y = record { kept = λ k h. y .kept k (x .kept k h); others = λ k a
 
 -- ---- of a command, of a word, and of a run of words
 module _ {X : Type 0} (K : Keep X) where
-  pub execute-stays : (c : Control X) → Stays (c .status) (execute K c .control .status)
+  pub execute-stays : (c : Control X) → Stays (c .notes .status) (execute K c .control .notes .status)
   execute-stays c = sets-stays (execute-sets K c)
 
-  pub word-stays : (c : Control X) (w : ℕ) → Stays (c .status) (word K c w .control .status)
+  pub word-stays : (c : Control X) (w : ℕ) → Stays (c .notes .status) (word K c w .control .notes .status)
   word-stays c w = sets-stays (word-sets K c w)
 
-  pub run-stays : (ws : List ℕ) (m : Seen X) → Stays (m .control .status) (run K m ws .control .status)
+  pub run-stays : (ws : List ℕ) (m : Seen X) → Stays (m .control .notes .status) (run K m ws .control .notes .status)
   unfolding run
-  run-stays [] m = all-stay (m .control .status)
+  run-stays [] m = all-stay (m .control .notes .status)
   run-stays (w ∷ ws) m = then-stay (word-stays (m .control) w) (run-stays ws (wordOn K m w))
 
 -- ---- and of a feed, whatever it answers
-pub feed-stays : (s : State) (ws : List ℕ) (P : List ℕ) (D : List ℤ) (F : List Float) (C T M : List ℕ) → Stays (s .status) (feed s ws P D F C T M .machine .control .status)
+pub feed-stays : (s : State) (ws : List ℕ) (P : List ℕ) (D : List ℤ) (F : List Float) (C T M : List ℕ) → Stays (s .notes .status) (feed s ws P D F C T M .machine .control .notes .status)
 unfolding feed
 feed-stays s ws P D F C T M = go (lengthsOk (length P) (length D) (length F) (length C) (length T) (length M)) (wellFormed s (length T) (length M))
   where
     go : (a b : Bool)
-        → Stays (s .status)
-        (cond {A = Outcome} a (cond {A = Outcome} b (record { answer = 0; machine = run asBox (machine s P D F C T M) ws }) (record { answer = 2; machine = machine s P D F C T M })) (record { answer = 1; machine = machine s P D F C T M }) .machine .control .status)
+        → Stays (s .notes .status)
+        (cond {A = Outcome} a (cond {A = Outcome} b (record { answer = 0; machine = run asBox (machine s P D F C T M) ws }) (record { answer = 2; machine = machine s P D F C T M })) (record { answer = 1; machine = machine s P D F C T M }) .machine .control .notes .status)
     go true true = run-stays asBox ws (machine s P D F C T M)
-    go true false = all-stay (s .status)
-    go false b = all-stay (s .status)
+    go true false = all-stay (s .notes .status)
+    go false b = all-stay (s .notes .status)

@@ -22,6 +22,7 @@ use Rattle.raster.proofs.Cases as raster
 use Rattle.ieee.proofs.Examples as ieee
 use Rattle.screen.specs.Depths.{farInts, farFloats}
 use Rattle.verdict.specs.Verdict.{bitsOf}
+use Rattle.verdict.specs.declared.Notes.{Notes}
 use Rattle.payload.specs.Words.{atMost}
 use Rattle.settings.specs.declared.Settings.{Settings}
 use Rattle.state.proofs.Formed.{parts, begun-idle}
@@ -63,7 +64,7 @@ from p = record { control = plainFresh; picture = p }
 
 -- m is seen as the plain machine n is, with a texture store of t words
 pub record As (t : ℕ) (m : Machine) (n : Seen Past) : Type 0 where
-  pub status : statusOf m ≡ n .control .status
+  pub status : statusOf m ≡ n .control .notes .status
   pub opcode : m .control .opcode ≡ n .control .opcode
   pub wanted : m .control .wanted ≡ n .control .wanted
   pub gathered : m .control .box .gathered ≡ length (n .control .box .payload)
@@ -83,7 +84,7 @@ by-plain {ws = ws} h = record {
         rw is
             (h (length T) (length M) r _
             (record {
-              status = s .control .status;
+              status = ap (λ (n : Notes). n .status) (s .control .notes);
               opcode = s .control .opcode;
               wanted = s .control .wanted;
               gathered = s .control .box .gathered;
@@ -95,7 +96,7 @@ by-plain {ws = ws} h = record {
 
 -- a plain machine with no command begun, and this status
 record Idle (n : Seen Past) (status : ℕ) : Type 0 where
-  status-is : n .control .status ≡ status
+  status-is : n .control .notes .status ≡ status
   opcode-none : n .control .opcode ≡ 0
   payload-none : length (n .control .box .payload) ≡ 0
   wanted-none : n .control .wanted ≡ 0
@@ -122,7 +123,7 @@ module _ (t u : ℕ) (p : Picture) where
   unfolding run word header
   too-many = record { status-is = refl; opcode-none = refl; payload-none = refl; wanted-none = refl }
 
-  as-many : (left (0x1708_0003 ∷ []) .control .status ≡ 0) × (left (0x1708_0003 ∷ []) .control .opcode ≡ 0x17) × (left (0x1708_0003 ∷ []) .control .wanted ≡ 524291)
+  as-many : (left (0x1708_0003 ∷ []) .control .notes .status ≡ 0) × (left (0x1708_0003 ∷ []) .control .opcode ≡ 0x17) × (left (0x1708_0003 ∷ []) .control .wanted ≡ 524291)
   unfolding run word header
   as-many = (refl, refl, refl)
 
@@ -131,43 +132,43 @@ module _ (t u : ℕ) (p : Picture) where
   unfolding run word header gather execute told commandOf paintedBy flatPainted flatVerdict inReach paintsOn
   flat-left z0 z1 z2 = refl
 
-  utmost-left : left (0x1200_000b ∷ utmost) .control .status ≡ 0
+  utmost-left : left (0x1200_000b ∷ utmost) .control .notes .status ≡ 0
   unfolding run word header gather execute told commandOf paintedBy flatPainted flatVerdict inReach
   utmost-left = refl
 
   -- one coordinate beyond, on either side
   abbrev Out : ℕ → Type 0
-  Out k = (left (0x1200_000b ∷ set utmost k 8193) .control .status ≡ 8) × (left (0x1200_000b ∷ set utmost k 4294959103) .control .status ≡ 8)
+  Out k = (left (0x1200_000b ∷ set utmost k 8193) .control .notes .status ≡ 8) × (left (0x1200_000b ∷ set utmost k 4294959103) .control .notes .status ≡ 8)
 
   beyond-left : Out 0 × Out 1 × Out 3 × Out 4 × Out 6 × Out 7
   unfolding run word header gather execute told commandOf paintedBy flatPainted flatVerdict inReach
   beyond-left = ((refl, refl), (refl, refl), (refl, refl), (refl, refl), (refl, refl), (refl, refl))
 
   -- ---- 3: clears that are refused
-  clear-left : (rgba v : ℕ) → (left (table.clear 4 rgba v) .control .status ≡ 8) × (left (table.clear 7 rgba v) .control .status ≡ 8)
+  clear-left : (rgba v : ℕ) → (left (table.clear 4 rgba v) .control .notes .status ≡ 8) × (left (table.clear 7 rgba v) .control .notes .status ≡ 8)
   unfolding run word header gather execute told commandOf paintedBy clearPainted
   clear-left rgba v = (refl, refl)
 
   -- ---- 11 and 12: textures
-  one-left : (n : ℕ) → 1 ≤ t → (left (0x1700_0004 ∷ n ∷ 1 ∷ 1 ∷ 0xf0a5_1234 ∷ []) .control .status ≡ 0) × (left (0x1700_0004 ∷ n ∷ 1 ∷ 1 ∷ 0xf0a5_1234 ∷ []) .control .box .textures ≡ wholeOf n 1 1 (0xf0a5_1234 ∷ []) ∷ [])
+  one-left : (n : ℕ) → 1 ≤ t → (left (0x1700_0004 ∷ n ∷ 1 ∷ 1 ∷ 0xf0a5_1234 ∷ []) .control .notes .status ≡ 0) × (left (0x1700_0004 ∷ n ∷ 1 ∷ 1 ∷ 0xf0a5_1234 ∷ []) .control .box .textures ≡ wholeOf n 1 1 (0xf0a5_1234 ∷ []) ∷ [])
   unfolding run word header gather execute told commandOf textureVerdict
   one-left n h = rw (le-ltb t 1 h) (refl, refl)
 
 three-four : (u : ℕ) (p : Picture)
-    → (run (asPast (given 4 u)) (from p) three .control .status ≡ 64) × (live (run (asPast (given 4 u)) (from p) three .control .box .textures) ≡ wholeOf 1 2 2 (11 ∷ 12 ∷ []) ∷ wholeOf 2 2 2 (21 ∷ 22 ∷ []) ∷ [])
+    → (run (asPast (given 4 u)) (from p) three .control .notes .status ≡ 64) × (live (run (asPast (given 4 u)) (from p) three .control .box .textures) ≡ wholeOf 1 2 2 (11 ∷ 12 ∷ []) ∷ wholeOf 2 2 2 (21 ∷ 22 ∷ []) ∷ [])
 unfolding run word header gather execute told commandOf textureVerdict
 three-four u p = (refl, refl)
 
-three-six : (u : ℕ) (p : Picture) → (run (asPast (given 6 u)) (from p) three .control .status ≡ 0) × (live (run (asPast (given 6 u)) (from p) three .control .box .textures) ≡ wholeOf 2 2 2 (21 ∷ 22 ∷ []) ∷ wholeOf 1 2 2 (31 ∷ 32 ∷ []) ∷ [])
+three-six : (u : ℕ) (p : Picture) → (run (asPast (given 6 u)) (from p) three .control .notes .status ≡ 0) × (live (run (asPast (given 6 u)) (from p) three .control .box .textures) ≡ wholeOf 2 2 2 (21 ∷ 22 ∷ []) ∷ wholeOf 1 2 2 (31 ∷ 32 ∷ []) ∷ [])
 unfolding run word header gather execute told commandOf textureVerdict
 three-six u p = (refl, refl)
 
 -- what a store of t words shows, where t is n
 stored : (u : ℕ) {t n status : ℕ} {us : List Whole} {m : Machine} → As t m (run (asPast (given t u)) plainStart three) → t ≡ n
-    → (run (asPast (given n u)) plainStart three .control .status ≡ status) × (live (run (asPast (given n u)) plainStart three .control .box .textures) ≡ us)
+    → (run (asPast (given n u)) plainStart three .control .notes .status ≡ status) × (live (run (asPast (given n u)) plainStart three .control .box .textures) ≡ us)
     → (statusOf m ≡ status) × (view Texture (m .control .box .textures .slots) (m .control .box .textures .words) ≡ us)
 stored u a r l = (
-  a .status ∙ ap (λ (k : ℕ). run (asPast (given k u)) plainStart three .control .status) r ∙ l .0,
+  a .status ∙ ap (λ (k : ℕ). run (asPast (given k u)) plainStart three .control .notes .status) r ∙ l .0,
   keeps-view (a .textures) ∙ ap (λ (k : ℕ). live (run (asPast (given k u)) plainStart three .control .box .textures)) r ∙ l .1,
 )
 
@@ -183,20 +184,20 @@ record Cleared (a b c : ℕ) (m n : Machine) : Type 0 where
   status : statusOf n ≡ bitOr (statusOf m) (bitsOf (atMost (a ∷ b ∷ c ∷ []) 0 3))
   picture : n .picture ≡ paintsOn (clearPaints (a ∷ b ∷ c ∷ [])) (m .picture)
 
-module _ (s : Settings) (st : ℕ) (t m : Shelf) (C : List ℕ) (p : Picture) where
+module _ (s : Settings) (n : Notes) (t m : Shelf) (C : List ℕ) (p : Picture) where
   -- no command is begun
   abbrev waiting : Machine
-  waiting = record { control = record { settings = s; status = st; opcode = 0; wanted = 0; box = box t m C 0 }; picture = p }
+  waiting = record { control = record { settings = s; notes = n; opcode = 0; wanted = 0; box = box t m C 0 }; picture = p }
 
   clear-run : 3 ≤ length C → (a b c : ℕ) → Cleared a b c waiting (run asBox waiting (table.clear a b c))
   unfolding run word header gather execute told commandOf paintedBy clearPainted paintsOn
   clear-run h a b c = record { status = rw (three-words C a b c h); picture = rw (three-words C a b c h) }
 
 is-waiting : (m : Machine) → m .control .opcode ≡ 0 → m .control .box .gathered ≡ 0 → m .control .wanted ≡ 0
-    → m ≡ waiting (m .control .settings) (m .control .status) (m .control .box .textures) (m .control .box .models) (m .control .box .area) (m .picture)
+    → m ≡ waiting (m .control .settings) (m .control .notes) (m .control .box .textures) (m .control .box .models) (m .control .box .area) (m .picture)
 is-waiting m a b c =
     λ i. record {
-      control = record { settings = m .control .settings; status = m .control .status; opcode = a i; wanted = c i; box = box (m .control .box .textures) (m .control .box .models) (m .control .box .area) (b i) };
+      control = record { settings = m .control .settings; notes = m .control .notes; opcode = a i; wanted = c i; box = box (m .control .box .textures) (m .control .box .models) (m .control .box .area) (b i) };
       picture = m .picture;
     }
 

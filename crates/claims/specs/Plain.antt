@@ -5,6 +5,7 @@ use lib.ListN.{length, replicate}
 use Rattle.screen.specs.Plane.{planeBytes}
 use Rattle.screen.specs.Draw.{pixels}
 use Rattle.screen.specs.Depths.{farInts, farFloats}
+use Rattle.verdict.specs.Verdict.{noNotes}
 use Rattle.settings.specs.Settings as settings
 use Rattle.store.specs.declared.Kind.{Kind}
 use Rattle.store.specs.declared.Kind.the-variants.{Texture, Model}
@@ -46,7 +47,7 @@ asPast size = record {
 
 -- "a reset answered 0 empties it": the fresh settings, status 0, no command begun, and no history
 abbrev pub plainFresh : Control Past
-plainFresh = record { settings = settings.fresh; status = 0; opcode = 0; wanted = 0; box = past [] [] [] }
+plainFresh = record { settings = settings.fresh; notes = noNotes; opcode = 0; wanted = 0; box = past [] [] [] }
 
 -- with the picture as a reset leaves it
 abbrev pub plainStart : Seen Past

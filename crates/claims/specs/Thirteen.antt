@@ -43,7 +43,7 @@ pub record AnyTime (ws : List ℕ) (Q : Machine → Machine → Type 0) : Type 0
 
 -- ---- what is read of a machine
 abbrev pub statusOf : Machine → ℕ
-statusOf m = m .control .status
+statusOf m = m .control .notes .status
 
 -- "next is a header": no command is begun
 pub record HeaderNext (m : Machine) : Type 0 where

@@ -16,7 +16,7 @@ use Rattle.verdict.specs.declared.Verdict.the-variants.{Done, Refused}
 use Rattle.verdict.specs.declared.Reason.the-variants.{NotFinite}
 use Rattle.clip.specs.declared.vertex.ClipVertex.{ClipVertex}
 use Rattle.payload.specs.Words.{floatAt, atMost, finiteFrom}
-use Rattle.payload.proofs.Done.{first-done, next-done}
+use Rattle.verdict.proofs.Checks.{first-done, next-done}
 use Rattle.decide.specs.Corners.{viewOf, projectedOf, cornerOf, cornersBy, cornersOf, inputOf, normalMatrixOf, orZero}
 use Rattle.decide.specs.Verdicts.{invertibleOf, heldOf, finite4, reachedOf, inputsOf, transformedBy, transformedVerdict, plainVertex, plainOf, texturedBy, checkedVerdict, texturedVerdict, refused, alwaysTransformed, alwaysTextured}
 use Rattle.decide.proofs.Finite.{row-finite}

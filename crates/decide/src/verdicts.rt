@@ -13,27 +13,17 @@ use payload::finite_from;
 use vector::normal::Inverse;
 use verdict::Reason;
 use verdict::Verdict;
+use verdict::not_invertible;
 ghost use mathlib.Core.Path.{_≡_};
 ghost use mathlib.Core.Bool.{true, false};
 ghost use mathlib.Core.List.{[]};
 ghost use Prim.Native.Nat.{_<_};
 ghost use lib.ListN.{length};
 ghost use Rattle.payload.specs.Words.{whenDone};
-ghost use Rattle.verdict.specs.declared.Reason.the-variants.{NotInvertible};
-ghost use Rattle.verdict.specs.declared.Verdict.the-variants.{Refused};
 ghost use Rattle.decide.specs.Corners.{wordsOf, cornersOf, normalMatrixOf};
 ghost use Rattle.decide.specs.Corners as corners-of;
 ghost use Rattle.decide.specs.Verdicts.{finite4, reachedOf, eachOf, inputsOf, plainVertex, transformedVerdict, texturedBy, checkedVerdict};
 ghost use Rattle.decide.specs.Checked.{zeroVertex, blank};
-
-fn not_invertible() -> Verdict
-    ensures { λ r. ⌜ r ≡ Refused NotInvertible 0 ⌝ }
-{
-    Verdict::Refused {
-        reason: Reason::NotInvertible,
-        index: 0,
-    }
-}
 
 fn finite_four(v: [f32; 4]) -> bool
     ensures { λ r. ⌜ r ≡ finite4 v ⌝ }

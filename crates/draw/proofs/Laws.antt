@@ -20,12 +20,12 @@ use Rattle.store.specs.declared.Slot.{Slot}
 use Rattle.store.specs.declared.Kind.the-variants.{Texture, Model}
 use Rattle.store.specs.declared.Found.{Found}
 use Rattle.store.specs.declared.Found.the-variants.{At, Nothing}
-use Rattle.store.proofs.Bools.{and-left, and-right}
+use Rattle.laws.proofs.Bools.{and-left, and-right}
 use Rattle.verdict.specs.declared.Reason.{Reason}
 use Rattle.verdict.specs.declared.Verdict.{Verdict}
 use Rattle.verdict.specs.declared.Verdict.the-variants.{Done, Refused}
 use Rattle.payload.specs.Words.{andThen, whenDone, wordAt, atMost}
-use Rattle.payload.proofs.Done.{first-done, next-done, and-assoc, and-done}
+use Rattle.verdict.proofs.Checks.{first-done, next-done, and-assoc, and-done}
 use Rattle.decide.specs.Corners.{cornersOf}
 use Rattle.decide.specs.Verdicts.{heldOf, transformedVerdict, checkedVerdict, texturedVerdict, triangleOf, recordsVerdict}
 use Rattle.decide.specs.Checked.{blank}

@@ -1,7 +1,6 @@
 // The float draws whole: 14, 16, 18, 19 and 1B. Each is decided first (`decide`, `judge`), and what
 // is accepted is lit and painted (`stroke`).
 use clip::vertex::ClipVertex;
-use payload::and_then;
 use raster::ink::Color;
 use settings::Settings;
 use store::Kind;
@@ -11,6 +10,7 @@ use stroke::Brush;
 use stroke::Texture;
 use vector::normal::Inverse;
 use verdict::Verdict;
+use verdict::and_then;
 ghost use mathlib.Core.Path.{_≡_};
 ghost use mathlib.Core.Bool.{true, false};
 ghost use Prim.Native.Nat.{_+_, _*_, _≤_};

@@ -33,14 +33,11 @@ use Rattle.execute.specs.declared.command.Command.{Command}
 use Rattle.execute.specs.declared.command.Command.the-variants.{Sets, Loads, Paints, Unknown}
 use Rattle.execute.specs.Commands.{Look, Load, commandOf, ofLength, settingsAfter, textureIn, modelIn, textureVerdict, countVerdict, loadTold, toldAs, told}
 use Rattle.execute.specs.Control.{Control, keptOf, execute}
+use Rattle.laws.proofs.Bools.{either}
 use Rattle.execute.specs.Kept.{Shelf, Formed, Box, roomOn, putOn, shelfOf, putBox, asBox}
 use Rattle.execute.proofs.Laws.{texture-passes, count-passes}
 
--- what holds in both cases of a test, and of a length
-either : {A : Type 0} (P : A → Type 0) (b : Bool) (x y : A) → P x → P y → P (cond b x y)
-either P true x y a b = a
-either P false x y a b = b
-
+-- what holds in both cases of a length
 of-length : {A : Type 0} (P : A → Type 0) (n : ℕ) (p : List ℕ) (x y : A) → (length p ≡ n → P x) → P y → P (ofLength n p x y)
 of-length P n p x y a b = go (eqb (length p) n) refl
   where

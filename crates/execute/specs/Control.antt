@@ -3,8 +3,8 @@ use Prim.Native.Nat.{ℕ}
 use mathlib.Core.Bool.{cond}
 use mathlib.Core.Option.{Option, none, some}
 use mathlib.Core.List.{List}
-use lib.Bits.{bitOr}
-use Rattle.verdict.specs.Verdict.{bitsOf}
+use Rattle.verdict.specs.Verdict.{notedOf}
+use Rattle.verdict.specs.declared.Notes.{Notes}
 use Rattle.verdict.specs.declared.Reason.the-variants as reason
 use Rattle.verdict.specs.declared.Verdict.{Verdict}
 use Rattle.verdict.specs.declared.Verdict.the-variants.{Done, Refused}
@@ -28,7 +28,7 @@ pub record Keep (X : Type 0) : Type 0 where
 -- what the words so far have left: the picture apart
 pub record Control (X : Type 0) : Type 0 where
   pub settings : Settings
-  pub status : ℕ
+  pub notes : Notes
   pub opcode : ℕ
   pub wanted : ℕ
   pub box : X
@@ -62,11 +62,11 @@ module _ {X : Type 0} (K : Keep X) where
   keptOf x none = x
   keptOf x (some l) = cond (isFits (K .room x l)) (K .put x l) x
 
-  -- a status bit for what was refused: "No command clears them"
+  -- what was refused is noted
   abbrev pub ended : Control X → Told → Control X
   ended c t = record {
     settings = t .settings;
-    status = bitOr (c .status) (bitsOf (verdictOf (c .box) t (t .load)));
+    notes = notedOf (c .notes) (c .opcode) (verdictOf (c .box) t (t .load));
     opcode = 0;
     wanted = 0;
     box = K .clear (keptOf (c .box) (t .load));

@@ -6,8 +6,7 @@ use mathlib.Core.List.{List}
 use lib.IntN.{ℤ}
 use lib.ListN.{length, take, set}
 use lib.Ieee.{Float}
-use lib.Bits.{bitOr}
-use Rattle.verdict.specs.Verdict.{bitsOf}
+use Rattle.verdict.specs.Verdict.{notedOf}
 use Rattle.verdict.specs.declared.Verdict.{Verdict}
 use Rattle.payload.specs.Words.{whenDone}
 use Rattle.settings.specs.declared.Settings.{Settings}
@@ -98,7 +97,7 @@ Machine = Seen Box
 abbrev pub controlOf : State → List ℕ → List ℕ → List ℕ → Control Box
 controlOf s C T M = record {
   settings = s .settings;
-  status = s .status;
+  notes = s .notes;
   opcode = s .opcode;
   wanted = s .wanted;
   box = box (shelf (s .textures) T) (shelf (s .models) M) C (s .gathered);
@@ -117,5 +116,5 @@ endedState s settings textures models v = record {
   opcode = 0;
   gathered = 0;
   wanted = 0;
-  status = bitOr (s .status) (bitsOf v);
+  notes = notedOf (s .notes) (s .opcode) v;
 }

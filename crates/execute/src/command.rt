@@ -1,9 +1,7 @@
 // What a command is, by its opcode: the one place that tells opcodes apart. Document 01, "Commands".
 use store::Kind;
-use verdict::Reason;
-use verdict::Verdict;
 ghost use mathlib.Core.Path.{_≡_};
-ghost use Rattle.execute.specs.Commands.{commandOf, settingWords, drawWords, wrongLength, unknown};
+ghost use Rattle.execute.specs.Commands.{commandOf, settingWords, drawWords};
 
 // What a command sets: shading mode and lighting, a matrix, a light.
 pub enum Setting {
@@ -78,23 +76,5 @@ pub fn draw_words(draw: Draw) -> usize
             20
         }
         Draw::Model => 2,
-    }
-}
-
-pub fn wrong_length() -> Verdict
-    ensures { λ r. ⌜ r ≡ wrongLength ⌝ }
-{
-    Verdict::Refused {
-        reason: Reason::WrongLength,
-        index: 0,
-    }
-}
-
-pub fn unknown() -> Verdict
-    ensures { λ r. ⌜ r ≡ unknown ⌝ }
-{
-    Verdict::Refused {
-        reason: Reason::UnknownOpcode,
-        index: 0,
     }
 }

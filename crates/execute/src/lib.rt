@@ -24,7 +24,7 @@ ghost use Rattle.execute.specs.Commands.{commandOf};
 ghost use Rattle.execute.specs.Control as control;
 ghost use Rattle.execute.specs.Kept.{Formed, asBox, controlOf, endedState};
 
-// The state after a command: no command is begun any more, and what was refused shows in the status.
+// The state after a command: no command is begun any more, and what was refused is noted.
 fn ended(
     state: State,
     settings: Settings,
@@ -34,6 +34,7 @@ fn ended(
 ) -> State
     ensures { λ r. ⌜ r ≡ endedState state settings textures models verdict ⌝ }
 {
+    let notes = state.notes;
     State {
         settings,
         textures,
@@ -41,7 +42,7 @@ fn ended(
         opcode: 0,
         gathered: 0,
         wanted: 0,
-        status: verdict::status_after(state.status, verdict),
+        notes: verdict::noted(notes, state.opcode, verdict),
     }
 }
 

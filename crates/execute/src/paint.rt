@@ -2,11 +2,11 @@
 use crate::clear::clear;
 use crate::command::Draw;
 use crate::command::draw_words;
-use crate::command::wrong_length;
 use settings::Settings;
 use store::SLOTS;
 use store::Slot;
 use verdict::Verdict;
+use verdict::wrong_length;
 ghost use mathlib.Core.Path.{_≡_};
 ghost use mathlib.Core.Bool.{true};
 ghost use lib.ListN.{length};

@@ -1,9 +1,9 @@
 // 01, 02 and 15: what the settings become.
 use crate::command::Setting;
 use crate::command::setting_words;
-use crate::command::wrong_length;
 use settings::Changed;
 use settings::Settings;
+use verdict::wrong_length;
 ghost use mathlib.Core.Path.{_≡_};
 ghost use Rattle.settings.specs.Settings.{changed};
 ghost use Rattle.execute.specs.Commands.{wrongLength, settingsAfter};

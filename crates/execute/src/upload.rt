@@ -1,11 +1,12 @@
 // 17 and 1A: what is checked of an upload before the stores are asked for room.
-use crate::command::wrong_length;
 use store::Kind;
 use store::Room;
 use store::SLOTS;
 use store::Slot;
 use verdict::Reason;
 use verdict::Verdict;
+use verdict::out_of_range;
+use verdict::wrong_length;
 ghost use mathlib.Core.Path.{_≡_};
 ghost use mathlib.Core.Bool.{true};
 ghost use Prim.Native.Nat.{_≤_};
@@ -16,8 +17,6 @@ ghost use Rattle.execute.specs.Commands.{textureVerdict, countVerdict, t
 ghost use Rattle.execute.specs.Control.{roomVerdict};
 ghost use Rattle.execute.specs.Kept.{Formed, shelf, shelved, keptOn, loadedOn};
 ghost use Rattle.state.specs.State.{mostPayload};
-ghost use Rattle.verdict.specs.declared.Reason.the-variants.{OutOfRange};
-ghost use Rattle.verdict.specs.declared.Verdict.the-variants.{Refused};
 
 // What an upload comes to, and the slots after it.
 pub struct Kept {
@@ -38,15 +37,6 @@ fn room_verdict(room: Room) -> Verdict
             reason: Reason::NoWords,
             index: 0,
         },
-    }
-}
-
-fn out_of_range(index: u32) -> Verdict
-    ensures { λ r. ⌜ r ≡ Refused OutOfRange index ⌝ }
-{
-    Verdict::Refused {
-        reason: Reason::OutOfRange,
-        index,
     }
 }
 

@@ -8,6 +8,7 @@ use lib.IntN.{ℤ, pos, negsuc, negℤ}
 use lib.Signed.{ltZ, leZ}
 use mir.Syntax.{w64}
 use mir.Val.{SFits, ofZ}
+use Rattle.laws.proofs.Bools.{and-left, and-right}
 use Rattle.flat.specs.Edge.{hasArea, agreesOf, insideOf}
 
 pub false-true : {X : Type 0} → false ≡ true → X
@@ -15,14 +16,6 @@ false-true {X} e = let z : _≡_ {A = ℕ} 0 1 = cc in absurd (zero-one z)
   where
     zero-one : _≡_ {A = ℕ} 0 1 → ⊥
     zero-one z = omega arith
-
-pub and-left : (a b : Bool) → (a && b) ≡ true → a ≡ true
-and-left true b e = refl
-and-left false b e = e
-
-pub and-right : (a b : Bool) → (a && b) ≡ true → b ≡ true
-and-right true b e = e
-and-right false b e = false-true e
 
 -- the weights, up to the sign that they share
 pub data Signs (area w0 w1 w2 : ℤ) : Type 0 where

@@ -1,14 +1,12 @@
 // Command 12's eleven words: corner by corner x, y and depth, then the colour and the shade.
 use screen::plane::Rgba;
-use verdict::Reason;
 use verdict::Verdict;
+use verdict::out_of_range;
 ghost use mathlib.Core.Path.{_≡_};
 ghost use Prim.Native.Nat.{_<_};
 ghost use lib.ListN.{length};
 ghost use mir.Syntax.{w32};
 ghost use mir.Val.{toZ};
-ghost use Rattle.verdict.specs.declared.Reason.the-variants.{OutOfRange};
-ghost use Rattle.verdict.specs.declared.Verdict.the-variants.{Refused};
 ghost use Rattle.flat.specs.Words.{inReach, shadedOf, triOf, flatVerdict};
 
 // How far a coordinate may be from 0, on both sides.
@@ -46,15 +44,6 @@ fn in_reach(word: u32) -> bool
         return -FLAT_REACH <= a;
     }
     a <= FLAT_REACH
-}
-
-fn out_of_range(index: u32) -> Verdict
-    ensures { λ r. ⌜ r ≡ Refused OutOfRange index ⌝ }
-{
-    Verdict::Refused {
-        reason: Reason::OutOfRange,
-        index,
-    }
 }
 
 // The first coordinate out of reach, in payload order. The depths, words 2, 5 and 8, have no bound.

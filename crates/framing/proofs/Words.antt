@@ -64,15 +64,15 @@ module _ (o g w : ℕ) where
 
 -- ---- the frame and the command area after a word
 module _ (f : Frame) (w : ℕ) where
-  pub header-zero : w / 16777216 ≡ 0 → headerFrame f w ≡ droppedFrame f ZeroOpcode
+  pub header-zero : w / 16777216 ≡ 0 → headerFrame f w ≡ droppedFrame f (w / 16777216) ZeroOpcode
   unfolding headerFrame
   header-zero e = rw (eq-eqb (w / 16777216) 0 e)
 
-  pub header-many : (w / 16777216 ≡ 0 → ⊥) → mostPayload < w % 16777216 → headerFrame f w ≡ droppedFrame f CountTooLarge
+  pub header-many : (w / 16777216 ≡ 0 → ⊥) → mostPayload < w % 16777216 → headerFrame f w ≡ droppedFrame f (w / 16777216) CountTooLarge
   unfolding headerFrame
   header-many e h = rw (ne-eqb (w / 16777216) 0 e, lt-ltb mostPayload (w % 16777216) h)
 
-  pub header-begun : (w / 16777216 ≡ 0 → ⊥) → w % 16777216 ≤ mostPayload → headerFrame f w ≡ frame (w / 16777216) (f .gathered) (w % 16777216) (f .status)
+  pub header-begun : (w / 16777216 ≡ 0 → ⊥) → w % 16777216 ≤ mostPayload → headerFrame f w ≡ frame (w / 16777216) (f .gathered) (w % 16777216) (f .notes)
   unfolding headerFrame
   header-begun e h = rw (ne-eqb (w / 16777216) 0 e, le-ltb mostPayload (w % 16777216) h)
 
@@ -80,7 +80,7 @@ module _ (f : Frame) (w : ℕ) where
   unfolding wordFrame
   word-header e = rw (eq-eqb (f .wanted) 0 e)
 
-  pub word-payload : (f .wanted ≡ 0 → ⊥) → wordFrame f w ≡ frame (f .opcode) (f .gathered + 1) (f .wanted - 1) (f .status)
+  pub word-payload : (f .wanted ≡ 0 → ⊥) → wordFrame f w ≡ frame (f .opcode) (f .gathered + 1) (f .wanted - 1) (f .notes)
   unfolding wordFrame
   word-payload e = rw (ne-eqb (f .wanted) 0 e)
 
@@ -155,13 +155,13 @@ case-of f w = go (eqb (f .wanted) 0) refl
     go false e = payload (eqb-false _ _ e) (eqb (f .wanted) 1) refl
 
 module _ (f : Frame) (w : ℕ) where
-  pub case-zero : f .wanted ≡ 0 → w / 16777216 ≡ 0 → wordFrame f w ≡ droppedFrame f ZeroOpcode
+  pub case-zero : f .wanted ≡ 0 → w / 16777216 ≡ 0 → wordFrame f w ≡ droppedFrame f (w / 16777216) ZeroOpcode
   case-zero e z = word-header f w e ∙ header-zero f w z
 
-  pub case-many : f .wanted ≡ 0 → (w / 16777216 ≡ 0 → ⊥) → mostPayload < w % 16777216 → wordFrame f w ≡ droppedFrame f CountTooLarge
+  pub case-many : f .wanted ≡ 0 → (w / 16777216 ≡ 0 → ⊥) → mostPayload < w % 16777216 → wordFrame f w ≡ droppedFrame f (w / 16777216) CountTooLarge
   case-many e o n = word-header f w e ∙ header-many f w o n
 
-  pub case-begun : f .wanted ≡ 0 → (w / 16777216 ≡ 0 → ⊥) → w % 16777216 ≤ mostPayload → wordFrame f w ≡ frame (w / 16777216) (f .gathered) (w % 16777216) (f .status)
+  pub case-begun : f .wanted ≡ 0 → (w / 16777216 ≡ 0 → ⊥) → w % 16777216 ≤ mostPayload → wordFrame f w ≡ frame (w / 16777216) (f .gathered) (w % 16777216) (f .notes)
   case-begun e o n = word-header f w e ∙ header-begun f w o n
 
   module _ (ok : begunOk (f .opcode) (f .gathered) (f .wanted) ≡ true) where

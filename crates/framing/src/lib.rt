@@ -2,30 +2,32 @@
 // nothing else.
 use state::MAX_COMMAND_WORDS;
 use state::State;
+use verdict::Notes;
 use verdict::Reason;
 use verdict::Verdict;
 ghost use mathlib.Core.Path.{_≡_};
 ghost use Prim.Native.Nat.{_+_, _≤_};
 ghost use lib.ListN.{length};
 ghost use lib.Seq.{paste};
-ghost use Rattle.framing.specs.Frames.{frameOf, withFrame, droppedFrame, headerFrame, wordFrame, wordArea, readyOf, betweenOf, gatheredFrame};
+ghost use Rattle.framing.specs.Frames.{frameOf, withFrame, droppedFrame, endedFrame, headerFrame, wordFrame, wordArea, readyOf, betweenOf, gatheredFrame};
 ghost use Rattle.state.specs.State.{mostPayload};
 
 pub struct Frame {
     pub opcode: u32,
     pub gathered: u32,
     pub wanted: u32,
-    pub status: u32,
+    pub notes: Notes,
 }
 
 pub fn frame_of(s: State) -> Frame
     ensures { λ r. ⌜ r ≡ frameOf s ⌝ }
 {
+    let notes = s.notes;
     Frame {
         opcode: s.opcode,
         gathered: s.gathered,
         wanted: s.wanted,
-        status: s.status,
+        notes,
     }
 }
 
@@ -33,23 +35,38 @@ pub fn with_frame(s: State, f: Frame) -> State
     ensures { λ r. ⌜ r ≡ withFrame s f ⌝ }
 {
     let mut t = s;
+    let notes = f.notes;
     t.opcode = f.opcode;
     t.gathered = f.gathered;
     t.wanted = f.wanted;
-    t.status = f.status;
+    t.notes = notes;
     t
 }
 
 // Only the header is dropped: the next word is a header.
-fn dropped(f: Frame, reason: Reason) -> Frame
-    ensures { λ r. ⌜ r ≡ droppedFrame f reason ⌝ }
+fn dropped(f: Frame, opcode: u32, reason: Reason) -> Frame
+    ensures { λ r. ⌜ r ≡ droppedFrame f opcode reason ⌝ }
 {
     let verdict = Verdict::Refused { reason, index: 0 };
+    let notes = f.notes;
     Frame {
         opcode: f.opcode,
         gathered: f.gathered,
         wanted: f.wanted,
-        status: verdict::status_after(f.status, verdict),
+        notes: verdict::noted(notes, opcode, verdict),
+    }
+}
+
+// No command is begun any more, and what was refused is noted.
+pub fn ended(f: Frame, verdict: Verdict) -> Frame
+    ensures { λ r. ⌜ r ≡ endedFrame f verdict ⌝ }
+{
+    let notes = f.notes;
+    Frame {
+        opcode: 0,
+        gathered: 0,
+        wanted: 0,
+        notes: verdict::noted(notes, f.opcode, verdict),
     }
 }
 
@@ -59,17 +76,18 @@ fn header(f: Frame, word: u32) -> Frame
 {
     let opcode = word / 16777216;
     let count = word % 16777216;
+    let notes = f.notes;
     if opcode == 0 {
-        return dropped(f, Reason::ZeroOpcode);
+        return dropped(f, opcode, Reason::ZeroOpcode);
     }
     if count > MAX_COMMAND_WORDS {
-        return dropped(f, Reason::CountTooLarge);
+        return dropped(f, opcode, Reason::CountTooLarge);
     }
     Frame {
         opcode,
         gathered: f.gathered,
         wanted: count,
-        status: f.status,
+        notes,
     }
 }
 
@@ -85,11 +103,12 @@ pub fn take_word(f: Frame, word: u32, command: &mut [u32]) -> Frame
     }
     let at = f.gathered as usize;
     command[at] = word;
+    let notes = f.notes;
     Frame {
         opcode: f.opcode,
         gathered: f.gathered + 1,
         wanted: f.wanted - 1,
-        status: f.status,
+        notes,
     }
 }
 
@@ -127,10 +146,11 @@ pub fn gather(f: Frame, words: &[u32], command: &mut [u32]) -> Frame
 {
     store::words::write_at(command, f.gathered as usize, words);
     let n = words.len() as u32;
+    let notes = f.notes;
     Frame {
         opcode: f.opcode,
         gathered: f.gathered + n,
         wanted: f.wanted - n,
-        status: f.status,
+        notes,
     }
 }

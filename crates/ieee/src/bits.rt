@@ -1,9 +1,9 @@
 // Floats and their bit patterns.
 ghost use mathlib.Core.Path.{_≡_};
 ghost use lib.ListN.{length};
-ghost use lib.Ieee.{binary32, ofBits, toBits, isNan};
+ghost use lib.Ieee.{binary32, ofBits, toBits};
 ghost use lib.Ieee.Scale.{finite};
-ghost use Rattle.ieee.specs.Words.{finiteAll, floatsOf};
+ghost use Rattle.ieee.specs.Words.{floatsOf};
 
 // The value of a bit pattern. `f32::from_bits` is undefined at a NaN's pattern, which is one above
 // the infinity's once the sign is cut off; there the answer is 0.0 / 0.0.
@@ -27,13 +27,6 @@ pub fn bits_of(x: f32) -> u32
     f32::to_bits(x)
 }
 
-// Nothing but a NaN differs from itself.
-pub fn is_nan(x: f32) -> bool
-    ensures { λ r. ⌜ r ≡ isNan x ⌝ }
-{
-    x != x
-}
-
 // Strictly between the infinities.
 pub fn is_finite(x: f32) -> bool
     ensures { λ r. ⌜ r ≡ finite x ⌝ }
@@ -46,20 +39,6 @@ pub fn finite_bits(bits: u32) -> bool
     ensures { λ r. ⌜ r ≡ finite (ofBits binary32 bits) ⌝ }
 {
     is_finite(float_of(bits))
-}
-
-// Whether each word is a number's pattern. A caller passes a part: finite_words(&p[1..17]).
-pub fn finite_words(p: &[u32]) -> bool
-    ensures { λ r. ⌜ r ≡ finiteAll (now (p .entry)) ⌝ }
-{
-    let mut i: usize = 0;
-    while i < p.len() {
-        if !finite_bits(p[i]) {
-            return false;
-        }
-        i += 1;
-    }
-    true
 }
 
 // The words' values, in their order.

@@ -25,10 +25,3 @@ pub fn pixel_float(x: usize) -> f32
 {
     (x as u16) as f32
 }
-
-// A texture's side, and any other u32, rounded to nearest.
-pub fn side_float(n: u32) -> f32
-    ensures { λ r. ⌜ r ≡ ofInt binary32 (pos n) ⌝ }
-{
-    std::num::nearest_u32_to_f32(n)
-}

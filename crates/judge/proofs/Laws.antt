@@ -19,14 +19,14 @@ use Rattle.store.specs.declared.Kind.{Kind}
 use Rattle.store.specs.declared.Kind.the-variants.{Model}
 use Rattle.store.specs.declared.Found.{Found}
 use Rattle.store.specs.declared.Found.the-variants.{At, Nothing}
-use Rattle.store.proofs.Bools.{and-left, and-right}
+use Rattle.laws.proofs.Bools.{and-left, and-right}
 use Rattle.store.proofs.Moved.{total-fits, spot}
 use Rattle.verdict.specs.declared.Reason.{Reason}
 use Rattle.verdict.specs.declared.Reason.the-variants.{NotHeld}
 use Rattle.verdict.specs.declared.Verdict.{Verdict}
 use Rattle.verdict.specs.declared.Verdict.the-variants.{Done, Refused}
 use Rattle.payload.specs.Words.{andThen, wordAt, atMost}
-use Rattle.payload.proofs.Done.{first-done, next-done, and-assoc, and-done, stopped, passed-on}
+use Rattle.verdict.proofs.Checks.{first-done, next-done, and-assoc, and-done, stopped, passed-on}
 use Rattle.decide.specs.Corners.{normalMatrixOf}
 use Rattle.decide.specs.Verdicts.{heldOf, texturedBy, checkedVerdict, texturedVerdict, triangleOf, recordsVerdict}
 use Rattle.decide.proofs.Decided.{lit-is}

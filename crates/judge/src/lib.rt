@@ -11,28 +11,17 @@ use store::Found;
 use store::SLOTS;
 use store::Slot;
 use vector::normal::Inverse;
-use verdict::Reason;
 use verdict::Verdict;
+use verdict::not_held;
 ghost use mathlib.Core.Path.{_≡_};
 ghost use mathlib.Core.Bool.{true};
 ghost use Prim.Native.Nat.{_≤_};
 ghost use lib.ListN.{length, getD};
-ghost use Rattle.verdict.specs.declared.Reason.the-variants.{NotHeld};
-ghost use Rattle.verdict.specs.declared.Verdict.the-variants.{Refused};
 ghost use Rattle.payload.specs.Words.{whenDone};
 ghost use Rattle.decide.specs.Corners.{wordsOf, cornersOf, normalMatrixOf};
 ghost use Rattle.decide.specs.Verdicts.{texturedVerdict};
 ghost use Rattle.decide.specs.Checked.{blank};
 ghost use Rattle.judge.specs.Judge.{heldIn, namedVerdict, slotBy};
-
-fn not_held() -> Verdict
-    ensures { λ r. ⌜ r ≡ Refused NotHeld 0 ⌝ }
-{
-    Verdict::Refused {
-        reason: Reason::NotHeld,
-        index: 0,
-    }
-}
 
 // What the mode and the number come to, and the slot under the number.
 pub struct Named {

@@ -6,7 +6,7 @@
 --     range-join                   a range after the one below it
 --     range-set                    a store at the end of a range: a turn of a loop
 use mathlib.Core.Path.{_≡_, refl, sym, ap, _∙_}
-use mathlib.Core.Bool.{Bool, true, false, _&&_}
+use mathlib.Core.Bool.{Bool, true, false, and-false}
 use mathlib.Core.List.{List, [], _∷_}
 use Prim.Native.Nat.{ℕ, zero, suc, _+_, _<_, _≤_}
 use native.Mathlib.Nat.{add-zero, zero-add, add-suc, suc-add, le-of-suc-le-suc, not-suc-le-zero}
@@ -30,10 +30,6 @@ under lo hi k p = simp (lt-leb lo k p)
 pub over : (lo hi k : ℕ) → hi ≤ k → between lo hi k ≡ false
 unfolding between
 over lo hi k p = simp (le-ltb k hi p) (and-false (leb lo k))
-  where
-    and-false : (b : Bool) → (b && false) ≡ false
-    and-false true = refl
-    and-false false = refl
 
 module _ {A : Type 0} where
   length-from : (f : ℕ → A → A) (i : ℕ) (xs : List A) → length (mapFrom f i xs) ≡ length xs

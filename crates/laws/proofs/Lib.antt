@@ -1,3 +1,4 @@
+pub mod Bools
 pub mod Cells
 pub mod Fill
 pub mod Paste

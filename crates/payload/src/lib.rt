@@ -4,7 +4,7 @@ use verdict::Verdict;
 ghost use mathlib.Core.Path.{_≡_};
 ghost use Prim.Native.Nat.{_+_, _≤_, _<_};
 ghost use lib.ListN.{length};
-ghost use Rattle.payload.specs.Words.{andThen, threeAt, atMost, finiteFrom, colorOf};
+ghost use Rattle.payload.specs.Words.{threeAt, atMost, finiteFrom, colorOf};
 
 pub fn three_at(p: &[u32], i: usize) -> [f32; 3]
     requires { ⌜ i + 3 ≤ length (now p) ⌝ }
@@ -15,16 +15,6 @@ pub fn three_at(p: &[u32], i: usize) -> [f32; 3]
         ieee::bits::float_of(p[i + 1]),
         ieee::bits::float_of(p[i + 2]),
     ]
-}
-
-// One check, and where it finds nothing the next.
-pub fn and_then(first: Verdict, next: Verdict) -> Verdict
-    ensures { λ r. ⌜ r ≡ andThen first next ⌝ }
-{
-    let Verdict::Done = first else {
-        return first;
-    };
-    next
 }
 
 // A word that may be `most` at most.

@@ -1,6 +1,6 @@
 -- `Rattle.screen.proofs.Draw`, at a float triangle: a run outside the box, and one pixel. Assumes nothing.
-use mathlib.Core.Path.{_≡_, refl, _∙_}
-use mathlib.Core.Bool.{Bool, true, false, _&&_}
+use mathlib.Core.Path.{_≡_, _∙_}
+use mathlib.Core.Bool.{Bool, true, false, _&&_, and-false}
 use mathlib.Core.List.{List}
 use Prim.Native.Nat.{ℕ, _+_, _*_, _/_, _%_, _<_, _≤_}
 use native.Mathlib.Omega.{arith}
@@ -20,10 +20,6 @@ use Rattle.face.specs.Pixel.{within, covers, baryOf, depthAt, passesOf}
 use Rattle.raster.specs.Ink.{shadeOf}
 use Rattle.raster.specs.Raster.{showsAt, shows, newDepth, inked, inkAt}
 use Rattle.raster.specs.Steps.{FaceDrawn}
-
-and-false : (b : Bool) → (b && false) ≡ false
-and-false true = refl
-and-false false = refl
 
 -- ---- in and out of a box
 module _ (r : Bounds) (x y : ℕ) where

@@ -1,9 +1,19 @@
 // A stream's words on the machine, from a reset.
 use libc::STDOUT_FILENO;
-use state::State;
 use vpu::Answer;
+use vpu::Fed;
 ghost use Prim.Native.Nat.{_<_, _≤_};
 ghost use lib.ListN.{length};
+
+// How the words are cut into calls.
+pub enum Cut {
+    // By the counts that stand before the words, with a line after each call.
+    Counted,
+    // In one call, with a line at the end, as with the next.
+    Whole,
+    // Word by word.
+    Words,
+}
 
 fn number_of(answer: Answer) -> u64 {
     match answer {
@@ -18,107 +28,75 @@ fn print_digest(h: u64) {
     io::print_hex(STDOUT_FILENO, h, 16);
 }
 
-fn report(answer: Answer, status: u32, plane: &[u8], depth: &[i32], depth_f32: &[f32]) {
+fn report(fed: Fed, plane: &[u8], depth: &[i32], depth_f32: &[f32]) {
+    let answer = fed.answer;
+    let s = fed.state;
+    let notes = s.notes;
     io::print_decimal(STDOUT_FILENO, number_of(answer));
     io::write_all(STDOUT_FILENO, b" ");
-    io::print_hex(STDOUT_FILENO, status as u64, 8);
+    io::print_hex(STDOUT_FILENO, notes.status as u64, 8);
     print_digest(digest::bytes(digest::START, plane));
     print_digest(digest::ints(digest::START, depth));
     print_digest(digest::floats(digest::START, depth_f32));
     io::write_all(STDOUT_FILENO, b"\n");
 }
 
-// What passes from call to call.
-struct Reached {
-    state: State,
-    at: usize,
-}
-
-// The call whose count stands at `at`.
-fn call(
-    tape: &[u32],
-    at: usize,
-    state: State,
-    plane: &mut [u8],
-    depth: &mut [i32],
-    depth_f32: &mut [f32],
-    command: &mut [u32],
-    textures: &mut [u32],
-    models: &mut [u32],
-) -> Reached
-    requires { ⌜ at < length (now tape) ⌝ }
-    ensures { λ r. ⌜ (at < r .at) × (r .at ≤ length (now (tape .entry))) ⌝ }
-{
-    let from = at + 1;
-    let end = from + words::least(words::size(tape[at]), tape.len() - from);
-    let fed = vpu::feed(
-        state,
-        &tape[from..end],
-        plane,
-        depth,
-        depth_f32,
-        command,
-        textures,
-        models,
-    );
-    let s = fed.state;
-    let answer = fed.answer;
-    report(answer, s.status, plane, depth, depth_f32);
-    Reached { state: s, at: end }
-}
-
-// By its calls, with a line after each.
-pub fn by_calls(
-    tape: &[u32],
-    plane: &mut [u8],
-    depth: &mut [i32],
-    depth_f32: &mut [f32],
-    command: &mut [u32],
-    textures: &mut [u32],
-    models: &mut [u32],
-) {
-    let begun = vpu::reset(plane, depth, depth_f32, command, textures, models);
-    let mut s = begun.state;
-    let mut at: usize = 0;
-    while at < tape.len() {
-        let r = call(
-            tape,
-            at,
-            s,
-            plane,
-            depth,
-            depth_f32,
-            command,
-            textures,
-            models,
-        );
-        s = r.state;
-        at = r.at;
+fn after_call(cut: Cut, fed: Fed, plane: &[u8], depth: &[i32], depth_f32: &[f32]) {
+    match cut {
+        Cut::Counted => report(fed, plane, depth, depth_f32),
+        Cut::Whole => {}
+        Cut::Words => {}
     }
 }
 
-// In one call.
-pub fn whole(
-    words: &[u32],
-    plane: &mut [u8],
-    depth: &mut [i32],
-    depth_f32: &mut [f32],
-    command: &mut [u32],
-    textures: &mut [u32],
-    models: &mut [u32],
-) {
-    let begun = vpu::reset(plane, depth, depth_f32, command, textures, models);
-    let s = begun.state;
-    let fed = vpu::feed(s, words, plane, depth, depth_f32, command, textures, models);
-    let after = fed.state;
-    let answer = fed.answer;
-    io::write_all(STDOUT_FILENO, b"whole ");
-    report(answer, after.status, plane, depth, depth_f32);
+fn at_end(cut: Cut, fed: Fed, plane: &[u8], depth: &[i32], depth_f32: &[f32]) {
+    match cut {
+        Cut::Counted => {}
+        Cut::Whole => {
+            io::write_all(STDOUT_FILENO, b"whole ");
+            report(fed, plane, depth, depth_f32);
+        }
+        Cut::Words => {
+            io::write_all(STDOUT_FILENO, b"words ");
+            report(fed, plane, depth, depth_f32);
+        }
+    }
 }
 
-// Word by word.
-pub fn by_words(
-    words: &[u32],
+// Where a call's words begin, and where they end.
+struct Span {
+    from: usize,
+    end: usize,
+}
+
+// Of the call that begins at `at`.
+fn words_at(cut: Cut, tape: &[u32], at: usize) -> Span
+    requires { ⌜ at < length (now tape) ⌝ }
+    ensures { λ r. ⌜ (at < r .end) × (r .from ≤ r .end) × (r .end ≤ length (now (tape .entry))) ⌝ }
+{
+    match cut {
+        Cut::Counted => {
+            let from = at + 1;
+            let n = words::least(words::size(tape[at]), tape.len() - from);
+            Span {
+                from,
+                end: from + n,
+            }
+        }
+        Cut::Whole => Span {
+            from: at,
+            end: tape.len(),
+        },
+        Cut::Words => Span {
+            from: at,
+            end: at + 1,
+        },
+    }
+}
+
+pub fn run(
+    cut: Cut,
+    tape: &[u32],
     plane: &mut [u8],
     depth: &mut [i32],
     depth_f32: &mut [f32],
@@ -127,12 +105,15 @@ pub fn by_words(
     models: &mut [u32],
 ) {
     let mut fed = vpu::reset(plane, depth, depth_f32, command, textures, models);
-    let mut k: usize = 0;
-    while k < words.len() {
+    let mut at: usize = 0;
+    while at < tape.len() {
         let s = fed.state;
+        let c = words_at(cut, tape, at);
+        let from = c.from;
+        let end = c.end;
         fed = vpu::feed(
             s,
-            &words[k..k + 1],
+            &tape[from..end],
             plane,
             depth,
             depth_f32,
@@ -140,10 +121,8 @@ pub fn by_words(
             textures,
             models,
         );
-        k += 1;
+        after_call(cut, fed, plane, depth, depth_f32);
+        at = end;
     }
-    let after = fed.state;
-    let answer = fed.answer;
-    io::write_all(STDOUT_FILENO, b"words ");
-    report(answer, after.status, plane, depth, depth_f32);
+    at_end(cut, fed, plane, depth, depth_f32);
 }

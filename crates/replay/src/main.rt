@@ -5,7 +5,8 @@
 mod machine;
 mod tape;
 
-use libc::STDOUT_FILENO;
+use machine::Cut;
+use machine::run;
 ghost use Prim.Native.Nat.{_<_};
 
 // The longest stream that is taken.
@@ -13,39 +14,7 @@ const TAPE: usize = 110000;
 
 const STORE: usize = 400000;
 
-// The stream that the tape holds, three times; the counts on the tape go after the first.
-fn thrice(
-    tape: &mut [u32],
-    plane: &mut [u8],
-    depth: &mut [i32],
-    depth_f32: &mut [f32],
-    command: &mut [u32],
-    textures: &mut [u32],
-    models: &mut [u32],
-) {
-    machine::by_calls(tape, plane, depth, depth_f32, command, textures, models);
-    let n = tape::joined(tape);
-    machine::whole(
-        &tape[..n],
-        plane,
-        depth,
-        depth_f32,
-        command,
-        textures,
-        models,
-    );
-    machine::by_words(
-        &tape[..n],
-        plane,
-        depth,
-        depth_f32,
-        command,
-        textures,
-        models,
-    );
-}
-
-// One stream, if the file has another.
+// One stream, if the file has another, three times; the counts on the tape go after the first.
 fn stream(
     fd: i32,
     tape: &mut [u32],
@@ -60,8 +29,30 @@ fn stream(
     if n == 0 {
         return false;
     }
-    thrice(
-        &mut tape[..n],
+    run(
+        Cut::Counted,
+        &tape[..n],
+        plane,
+        depth,
+        depth_f32,
+        command,
+        textures,
+        models,
+    );
+    let m = tape::joined(tape, n);
+    run(
+        Cut::Whole,
+        &tape[..m],
+        plane,
+        depth,
+        depth_f32,
+        command,
+        textures,
+        models,
+    );
+    run(
+        Cut::Words,
+        &tape[..m],
         plane,
         depth,
         depth_f32,

@@ -82,14 +82,15 @@ pub fn next(fd: i32, tape: &mut [u32]) -> usize
     n
 }
 
-// The same words without the counts, moved to the front: how many they are.
-pub fn joined(tape: &mut [u32]) -> usize
+// The first n words without the counts among them, moved to the front: how many they are.
+pub fn joined(tape: &mut [u32], n: usize) -> usize
+    requires { ⌜ n ≤ length (now tape) ⌝ }
     ensures { λ r. ⌜ Counts r (now (tape .exit)) ⌝ }
 {
     let mut at: usize = 0;
     let mut to: usize = 0;
     let mut left: u32 = 0;
-    while at < tape.len() {
+    while at < n {
         let w = tape[at];
         at += 1;
         if left == 0 {

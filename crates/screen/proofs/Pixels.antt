@@ -1,16 +1,12 @@
 -- Reading a pixel, case by case: what `pixelOf` is where the length is wrong, the pixel is off the screen, and on it. Assumes nothing.
 use Prim.Native.Nat.{ℕ, _+_, _*_, _<_, _≤_}
-use mathlib.Core.Path.{_≡_, refl}
-use mathlib.Core.Bool.{Bool, true, false, _&&_}
+use mathlib.Core.Path.{_≡_}
+use mathlib.Core.Bool.{and-false}
 use mathlib.Core.List.{List}
 use borrow.Author.Tests.{lt-ltb, le-ltb, eq-eqb, ne-eqb}
 use lib.Dec.{ltb}
 use lib.ListN.{length}
 use Rattle.screen.specs.Plane.{width, height, planeBytes, nothing, fourFrom, pixelOf}
-
-and-false : (b : Bool) → (b && false) ≡ false
-and-false true = refl
-and-false false = refl
 
 module _ (P : List ℕ) (x y : ℕ) where
   pub wrong-length : (length P ≡ planeBytes → ⊥) → pixelOf P x y ≡ record { number = 1; bytes = nothing }

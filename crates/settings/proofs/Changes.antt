@@ -6,7 +6,8 @@ use Rattle.verdict.specs.declared.Reason.{Reason}
 use Rattle.verdict.specs.declared.Verdict.{Verdict}
 use Rattle.verdict.specs.declared.Verdict.the-variants.{Done, Refused}
 use Rattle.payload.specs.Words.{andThen, wordAt, atMost, finiteFrom}
-use Rattle.payload.proofs.Done.{first-done, next-done, at-most-done}
+use Rattle.verdict.proofs.Checks.{first-done, next-done}
+use Rattle.payload.proofs.Done.{at-most-done}
 use Rattle.settings.specs.Settings.{changed, modeVerdict, matrixVerdict, lightVerdict}
 use Rattle.settings.specs.declared.Settings.{Settings}
 use Rattle.settings.specs.declared.Changed.{Changed}

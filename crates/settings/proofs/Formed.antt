@@ -1,7 +1,7 @@
 -- Settings start well formed, and each command leaves them so and as long as they were; each clause of "well formed" decides by itself. Assumes nothing.
 use Prim.Native.Nat.{ℕ, _+_, _*_, _≤_, _<_}
 use mathlib.Core.Path.{_≡_, refl, _∙_}
-use mathlib.Core.Bool.{Bool, true, false, cond, _&&_, and-false, and-eq-true-iff}
+use mathlib.Core.Bool.{true, false, _&&_, and-false, and-eq-true-iff}
 use mathlib.Core.List.{List, _++_}
 use native.Mathlib.Omega.{arith}
 use borrow.Author.Tests.{leb-true, le-leb, lt-leb}
@@ -16,6 +16,7 @@ use Rattle.verdict.specs.declared.Verdict.{Verdict}
 use Rattle.verdict.specs.declared.Verdict.the-variants.{Done, Refused}
 use Rattle.payload.specs.Words.{wordAt, floatAt, threeAt, finiteFrom}
 use Rattle.payload.proofs.Done.{finite-done}
+use Rattle.laws.proofs.Bools.{either}
 use Rattle.settings.specs.Settings.{fresh, changed, modeVerdict, withMode, matrixVerdict, withMatrix, lightVerdict, lightOf, withLight, allOf, finiteList, lightOk, lightsOk, settingsOk}
 use Rattle.settings.specs.declared.Settings.{Settings}
 use Rattle.settings.proofs.All.{all-not, all-is, all-append, all-take, all-drop, all-set}
@@ -103,10 +104,6 @@ changed-keeps P (Refused reason index) new old a b = a
 pub fresh-ok : settingsOk fresh ≡ true
 unfolding settingsOk lightOk allOf ofBits
 fresh-ok = refl
-
-either : {A : Type 0} (P : A → Type 0) (t : Bool) (x y : A) → P x → P y → P (cond t x y)
-either P true x y a b = a
-either P false x y a b = b
 
 -- what holds with one field or the other set holds after command 01
 mode-keeps : (P : Settings → Type 0) (s : Settings) (p : List ℕ)

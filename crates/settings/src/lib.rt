@@ -90,7 +90,7 @@ fn mode_verdict(p: &[u32]) -> Verdict
     requires { ⌜ length (now p) ≡ 2 ⌝ }
     ensures { λ r. ⌜ r ≡ modeVerdict (now (p .entry)) ⌝ }
 {
-    payload::and_then(payload::at_most(p, 0, 1), payload::at_most(p, 1, 1))
+    verdict::and_then(payload::at_most(p, 0, 1), payload::at_most(p, 1, 1))
 }
 
 fn with_mode(s: Settings, p: &[u32]) -> Settings
@@ -128,7 +128,7 @@ fn matrix_verdict(p: &[u32]) -> Verdict
     requires { ⌜ length (now p) ≡ 17 ⌝ }
     ensures { λ r. ⌜ r ≡ matrixVerdict (now (p .entry)) ⌝ }
 {
-    payload::and_then(payload::at_most(p, 0, 2), payload::finite_from(p, 1, 16))
+    verdict::and_then(payload::at_most(p, 0, 2), payload::finite_from(p, 1, 16))
 }
 
 fn with_matrix(s: Settings, p: &[u32]) -> Settings
@@ -167,9 +167,9 @@ fn light_verdict(p: &[u32]) -> Verdict
     requires { ⌜ length (now p) ≡ 17 ⌝ }
     ensures { λ r. ⌜ r ≡ lightVerdict (now (p .entry)) ⌝ }
 {
-    payload::and_then(
+    verdict::and_then(
         payload::at_most(p, 0, 7),
-        payload::and_then(payload::at_most(p, 1, 1), payload::finite_from(p, 2, 15)),
+        verdict::and_then(payload::at_most(p, 1, 1), payload::finite_from(p, 2, 15)),
     )
 }
 

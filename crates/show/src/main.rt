@@ -109,5 +109,6 @@ fn main() {
     );
     picture::write(&plane);
     let s = left.state;
-    refusal::report(s.status, s.wanted, left.cut);
+    let notes = s.notes;
+    refusal::report(notes.status, s.wanted, left.cut);
 }

@@ -12,7 +12,7 @@ use Rattle.store.specs.declared.Kind.{Kind}
 use Rattle.store.specs.declared.Kind.the-variants.{Texture, Model}
 use Rattle.store.specs.Uploads.{total}
 use Rattle.store.specs.Slots.{areaOf, sidesOk, noSlot, told, fresh, zeroSlot, unused, heldOk, slotsOk}
-use Rattle.store.proofs.Bools.{and-left, cond-both}
+use Rattle.laws.proofs.Bools.{and-left, cond-both}
 use Rattle.store.proofs.Walk.{unused-is, ok-unheld, ok-no, fresh-not}
 use Rattle.state.specs.State.{mostPayload, begunOk, wellFormed}
 use Rattle.state.specs.declared.State.{State}

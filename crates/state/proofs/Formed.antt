@@ -11,7 +11,7 @@ use Rattle.settings.proofs.Formed.{fresh-ok}
 use Rattle.store.specs.Slots.{noSlot, slotsOk}
 use Rattle.store.specs.declared.Kind.{Kind}
 use Rattle.store.specs.declared.Kind.the-variants.{Texture, Model}
-use Rattle.store.proofs.Bools.{and-left, and-right}
+use Rattle.laws.proofs.Bools.{and-left, and-right}
 use Rattle.state.specs.State.{mostPayload, fresh, begunOk, wellFormed}
 use Rattle.state.specs.declared.State.{State}
 

@@ -1,9 +1,9 @@
 -- The machine's small state, the fresh one, and when a state is well formed. Document 01, "Lent memory and call answers". Definitions only.
 use Prim.Native.Nat.{ℕ, _+_}
 use mathlib.Core.Bool.{Bool, _&&_, _||_}
-use mathlib.Core.List.{List}
 use lib.Dec.{eqb, leb, ltb}
 use lib.ListN.{replicate}
+use Rattle.verdict.specs.Verdict.{noNotes}
 use Rattle.settings.specs.Settings as settings
 use Rattle.store.specs.Uploads.{slotCount}
 use Rattle.store.specs.Slots.{noSlot, slotsOk}
@@ -23,7 +23,7 @@ fresh = record {
   opcode = 0;
   gathered = 0;
   wanted = 0;
-  status = 0;
+  notes = noNotes;
 }
 
 -- "no command begun (opcode, gathered, wanted all 0), or opcode 1..255, wanted ≥ 1 and gathered + wanted ≤ 524,291"

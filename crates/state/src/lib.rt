@@ -4,6 +4,7 @@ use settings::Settings;
 use store::Kind;
 use store::SLOTS;
 use store::Slot;
+use verdict::Notes;
 ghost use mathlib.Core.Path.{_≡_};
 ghost use Rattle.state.specs.State.{fresh, begunOk, wellFormed};
 
@@ -19,7 +20,7 @@ pub struct State {
     pub opcode: u32,
     pub gathered: u32,
     pub wanted: u32,
-    pub status: u32,
+    pub notes: Notes,
 }
 
 impl State {
@@ -31,7 +32,7 @@ impl State {
         opcode: 0,
         gathered: 0,
         wanted: 0,
-        status: 0,
+        notes: Notes::NONE,
     };
 
     pub fn fresh() -> State

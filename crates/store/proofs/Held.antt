@@ -10,7 +10,7 @@ use lib.ListN.{length, take, drop, replicate, length-append, length-replicate, l
 use lib.Seq.{drop-drop, take-append-seam, drop-append-seam, drop-at, length-take-le}
 use lib.Dec.{eqb, leb}
 use borrow.Author.Tests.{eqb-true, eq-eqb, leb-true, le-leb, not-true}
-use Rattle.store.proofs.Bools.{and-left, and-right, cond-both}
+use Rattle.laws.proofs.Bools.{and-left, and-right, cond-both}
 use Rattle.store.proofs.Laws.{Apart, All, Space, all-stored, apart-stored, total-stored, length-stored, length-wordsOf, wordsOf-append, cards-stored}
 use Rattle.store.specs.Uploads.{Whole, Card, card, cards, without, find, isSome, holds, wordsOf, total, stored}
 use Rattle.store.specs.Slots.{areaOf, sidesOk, noSlot, place, slotsOf, cardAt, told, view, wordsAfter, slotsAfter, slotsOk, heldOk, zeroSlot, fresh, unused}

@@ -1,4 +1,3 @@
-pub mod Bools
 pub mod Over
 pub mod Laws
 pub mod Walk

@@ -11,7 +11,7 @@ use lib.ListN.{length, take, drop, getD, set, replicate, drop-of-length-le, leng
 use lib.Seq.{drop-cons, take-suc, length-take-le, set-at}
 use lib.Dec.{eqb, leb, ltb}
 use borrow.Author.Tests.{eq-eqb, ne-eqb, leb-true}
-use Rattle.store.proofs.Bools.{and-left, and-right}
+use Rattle.laws.proofs.Bools.{and-left, and-right}
 use Rattle.store.proofs.Laws.{without-append, length-without, total-append, total-without}
 use Rattle.store.specs.Uploads.{Card, without, holds, total}
 use Rattle.store.specs.Slots.{areaOf, sidesOk, noSlot, slotOf, place, slotsOf, cardAt, told, slotFor, stays, fresh, zeroSlot, unused, heldOk, slotsOk}

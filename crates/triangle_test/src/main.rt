@@ -188,16 +188,22 @@ fn lines(
     }
 }
 
-// An array by its reference has its length by its type.
-fn shape_lines(
-    kind: u32,
+// Flat triangles, then the others in each of five ways.
+fn sections(
     plane: &mut [u8],
     depth: &mut [i32],
     depth_f32: &mut [f32],
     texels: &[u32; 32],
-    shapes: &[u8; 416000],
+    flats: &[u8],
+    shapes: &[u8],
 ) {
-    lines(kind, 208, plane, depth, depth_f32, texels, shapes);
+    clear(plane, depth, depth_f32);
+    lines(0, 44, plane, depth, depth_f32, texels, flats);
+    let mut kind: u32 = 1;
+    while kind < 6 {
+        lines(kind, 208, plane, depth, depth_f32, texels, shapes);
+        kind += 1;
+    }
 }
 
 fn main() {
@@ -211,11 +217,12 @@ fn main() {
     io::read_full(STDIN_FILENO, &mut flats);
     io::read_full(STDIN_FILENO, &mut shapes);
     let texels = words_of(&texture);
-    clear(&mut plane, &mut depth, &mut floats);
-    lines(0, 44, &mut plane, &mut depth, &mut floats, &texels, &flats);
-    shape_lines(1, &mut plane, &mut depth, &mut floats, &texels, &shapes);
-    shape_lines(2, &mut plane, &mut depth, &mut floats, &texels, &shapes);
-    shape_lines(3, &mut plane, &mut depth, &mut floats, &texels, &shapes);
-    shape_lines(4, &mut plane, &mut depth, &mut floats, &texels, &shapes);
-    shape_lines(5, &mut plane, &mut depth, &mut floats, &texels, &shapes);
+    sections(
+        &mut plane,
+        &mut depth,
+        &mut floats,
+        &texels,
+        &flats,
+        &shapes,
+    );
 }

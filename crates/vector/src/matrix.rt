@@ -1,39 +1,10 @@
 // The three matrices of the machine stand in one array of 48 cells, row by row.
 ghost use mathlib.Core.Path.{_≡_};
 ghost use Prim.Native.Nat.{_*_, _<_, _≤_};
-ghost use Rattle.vector.specs.Matrices.{identity, rowOf, cellOf, crossOf, transformOf, multiplyOf};
+ghost use Rattle.vector.specs.Matrices.{rowOf, cellOf, crossOf, transformOf, multiplyOf};
 
 pub struct Matrix {
     pub cells: [f32; 16],
-}
-
-impl Matrix {
-    pub const IDENTITY: Matrix = Matrix {
-        cells: [
-            1.0,
-            0.0,
-            0.0,
-            0.0,
-            0.0,
-            1.0,
-            0.0,
-            0.0,
-            0.0,
-            0.0,
-            1.0,
-            0.0,
-            0.0,
-            0.0,
-            0.0,
-            1.0,
-        ],
-    };
-
-    pub fn identity() -> Matrix
-        ensures { λ r. ⌜ r ≡ identity ⌝ }
-    {
-        Matrix::IDENTITY
-    }
 }
 
 // The row that begins at cell p.

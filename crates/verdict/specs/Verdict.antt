@@ -1,9 +1,11 @@
 -- Why a word or a command was refused, and what that does to the status. Document 01, "Status bits"; the numbers are document 02's, A3. Assumes nothing.
 use Prim.Native.Nat.{ℕ}
 use mathlib.Core.Bool.{cond}
+use lib.Bits.{bitOr}
 use lib.Dec.{eqb, leb}
 use Rattle.verdict.specs.declared.Reason.{Reason}
 use Rattle.verdict.specs.declared.Reason.the-variants.{ZeroOpcode, CountTooLarge, UnknownOpcode, WrongLength, OutOfRange, NotFinite, NotHeld, NotInvertible, NoSlot, NoWords}
+use Rattle.verdict.specs.declared.Notes.{Notes}
 use Rattle.verdict.specs.declared.Verdict.{Verdict}
 use Rattle.verdict.specs.declared.Verdict.the-variants.{Done, Refused}
 
@@ -27,6 +29,13 @@ bitFor n = cond (eqb n 1) 4 (cond (leb n 8) 8 64)
 abbrev pub bitsOf : Verdict → ℕ
 bitsOf Done = 0
 bitsOf (Refused r i) = bitFor (numberOf r)
+
+-- what refusals leave behind: nothing yet; and after a command, or a header, of this opcode that came to v. "No command clears them"
+abbrev pub noNotes : Notes
+noNotes = record { status = 0 }
+
+abbrev pub notedOf : Notes → ℕ → Verdict → Notes
+notedOf n opcode v = record { status = bitOr (n .status) (bitsOf v) }
 
 -- one check, and where it finds nothing the next
 abbrev pub andThen : Verdict → Verdict → Verdict

@@ -2,7 +2,9 @@
 // the index of the payload word that was first found wrong.
 ghost use mathlib.Core.Path.{_≡_};
 ghost use lib.Bits.{bitOr};
-ghost use Rattle.verdict.specs.Verdict.{numberOf, bitFor, bitsOf};
+ghost use Rattle.verdict.specs.declared.Reason.the-variants as reason;
+ghost use Rattle.verdict.specs.declared.Verdict.the-variants as verdict;
+ghost use Rattle.verdict.specs.Verdict.{numberOf, bitFor, bitsOf, notedOf, andThen};
 
 // In the order of document 02's numbers, 1 to 10.
 pub enum Reason {
@@ -22,6 +24,72 @@ pub enum Reason {
 pub enum Verdict {
     Done,
     Refused { reason: Reason, index: u32 },
+}
+
+// What refusals leave behind.
+pub struct Notes {
+    pub status: u32,
+}
+
+impl Notes {
+    // Nothing was refused.
+    pub const NONE: Notes = Notes { status: 0 };
+}
+
+// Refusals that several commands give.
+pub fn unknown() -> Verdict
+    ensures { λ r. ⌜ r ≡ verdict.Refused reason.UnknownOpcode 0 ⌝ }
+{
+    Verdict::Refused {
+        reason: Reason::UnknownOpcode,
+        index: 0,
+    }
+}
+
+pub fn wrong_length() -> Verdict
+    ensures { λ r. ⌜ r ≡ verdict.Refused reason.WrongLength 0 ⌝ }
+{
+    Verdict::Refused {
+        reason: Reason::WrongLength,
+        index: 0,
+    }
+}
+
+pub fn out_of_range(index: u32) -> Verdict
+    ensures { λ r. ⌜ r ≡ verdict.Refused reason.OutOfRange index ⌝ }
+{
+    Verdict::Refused {
+        reason: Reason::OutOfRange,
+        index,
+    }
+}
+
+pub fn not_held() -> Verdict
+    ensures { λ r. ⌜ r ≡ verdict.Refused reason.NotHeld 0 ⌝ }
+{
+    Verdict::Refused {
+        reason: Reason::NotHeld,
+        index: 0,
+    }
+}
+
+pub fn not_invertible() -> Verdict
+    ensures { λ r. ⌜ r ≡ verdict.Refused reason.NotInvertible 0 ⌝ }
+{
+    Verdict::Refused {
+        reason: Reason::NotInvertible,
+        index: 0,
+    }
+}
+
+// One check, and where it finds nothing the next.
+pub fn and_then(first: Verdict, next: Verdict) -> Verdict
+    ensures { λ r. ⌜ r ≡ andThen first next ⌝ }
+{
+    let Verdict::Done = first else {
+        return first;
+    };
+    next
 }
 
 // Document 02's number.
@@ -56,11 +124,20 @@ fn bit_for(number: u32) -> u32
 }
 
 // The status after a verdict: no bit is ever cleared.
-pub fn status_after(status: u32, verdict: Verdict) -> u32
+fn status_after(status: u32, verdict: Verdict) -> u32
     ensures { λ r. ⌜ r ≡ bitOr status (bitsOf verdict) ⌝ }
 {
     match verdict {
         Verdict::Done => status,
         Verdict::Refused { reason, index: _ } => status | bit_for(number(reason)),
+    }
+}
+
+// The one place where a refusal is noted: of a command, or of a header, with this opcode.
+pub fn noted(notes: Notes, opcode: u32, verdict: Verdict) -> Notes
+    ensures { λ r. ⌜ r ≡ notedOf notes opcode verdict ⌝ }
+{
+    Notes {
+        status: status_after(notes.status, verdict),
     }
 }

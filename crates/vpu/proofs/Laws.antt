@@ -9,7 +9,6 @@ use native.Mathlib.Numerals.{add-one}
 use borrow.Author.Tests.{eq-eqb, ne-eqb, eqb-true, leb-true, lt-ltb, le-ltb}
 use lib.IntN.{ℤ}
 use lib.Ieee.{Float}
-use lib.Bits.{bitOr}
 use lib.ListN.{length, take, drop, getD, length-drop}
 use lib.Seq.{drop-cons, drop-length, getD-drop, take-take, length-take-le, paste, paste-zero, paste-suc}
 use Rattle.screen.specs.Plane.{planeBytes}
@@ -17,7 +16,6 @@ use Rattle.screen.specs.Draw.{pixels}
 use Rattle.store.specs.Uploads.{mostWords}
 use Rattle.store.specs.declared.Kind.the-variants.{Texture, Model}
 use Rattle.settings.specs.Settings.{settingsOk}
-use Rattle.verdict.specs.Verdict.{bitsOf}
 use Rattle.verdict.specs.declared.Verdict.{Verdict}
 use Rattle.verdict.specs.declared.Reason.the-variants.{ZeroOpcode, CountTooLarge}
 use Rattle.state.specs.State.{mostPayload, begunOk, wellFormed, fresh}
@@ -32,7 +30,7 @@ use Rattle.execute.proofs.Formed.{Stands, execute-stands}
 use Rattle.execute.proofs.Executed.{blank-executed, unknown-executed}
 use Rattle.framing.specs.declared.Frame.{Frame}
 use Rattle.vpu.specs.Framing.{word, header, gather, wordOn, run}
-use Rattle.framing.specs.Frames.{frame, frameOf, withFrame, droppedFrame, wordFrame, wordArea, readyOf, betweenOf, gatheredFrame}
+use Rattle.framing.specs.Frames.{frame, frameOf, withFrame, droppedFrame, endedFrame, wordFrame, wordArea, readyOf, betweenOf, gatheredFrame}
 use Rattle.vpu.specs.Sound.{Sound}
 use Rattle.vpu.specs.Calls.{stateOf, outcome, lengthsOk, feed, cleared, reset}
 use Rattle.framing.proofs.Words.{Case, zero-opcode, too-many, at-once, begins, last, more, case-of, idle, gathering, begun-fits, word-fits, word-begun, word-payload, area-header, area-payload, area-length, ready-idle, ready-whole, ready-wanting, between-fits, case-zero, case-many, case-begun}
@@ -94,26 +92,26 @@ module _ (s : State) (P : List ℕ) (D : List ℤ) (F : List Float) (T M : List 
       go : Case f w → wordOn asBox (at-frame f C) w ≡ cond (readyOf (wordFrame f w)) (executed asBox (at-frame (wordFrame f w) (wordArea f w C))) (at-frame (wordFrame f w) (wordArea f w C))
       go (zero-opcode e z) =
           let i = idle _ _ _ ok e in
-          rw (case-zero f w e z, area-header f w C e, ready-idle (droppedFrame f ZeroOpcode) e (i .no-opcode), eq-eqb (f .wanted) 0 e, eq-eqb (w / 16777216) 0 z)
+          rw (case-zero f w e z, area-header f w C e, ready-idle (droppedFrame f (w / 16777216) ZeroOpcode) e (i .no-opcode), eq-eqb (f .wanted) 0 e, eq-eqb (w / 16777216) 0 z)
       go (too-many e o n) =
           let i = idle _ _ _ ok e in
-          rw (case-many f w e o n, area-header f w C e, ready-idle (droppedFrame f CountTooLarge) e (i .no-opcode), eq-eqb (f .wanted) 0 e, ne-eqb (w / 16777216) 0 o, lt-ltb mostPayload (w % 16777216) n)
+          rw (case-many f w e o n, area-header f w C e, ready-idle (droppedFrame f (w / 16777216) CountTooLarge) e (i .no-opcode), eq-eqb (f .wanted) 0 e, ne-eqb (w / 16777216) 0 o, lt-ltb mostPayload (w % 16777216) n)
       go (at-once e o z) =
           let n : w % 16777216 ≤ mostPayload = omega arith in
-          rw (case-begun f w e o n, area-header f w C e, ready-whole (frame (w / 16777216) (f .gathered) (w % 16777216) (f .status)) z o, eq-eqb (f .wanted) 0 e, ne-eqb (w / 16777216) 0 o, le-ltb mostPayload (w % 16777216) n, eq-eqb (w % 16777216) 0 z, z)
+          rw (case-begun f w e o n, area-header f w C e, ready-whole (frame (w / 16777216) (f .gathered) (w % 16777216) (f .notes)) z o, eq-eqb (f .wanted) 0 e, ne-eqb (w / 16777216) 0 o, le-ltb mostPayload (w % 16777216) n, eq-eqb (w % 16777216) 0 z, z)
       go (begins e o n z) =
-          rw (case-begun f w e o n, area-header f w C e, ready-wanting (frame (w / 16777216) (f .gathered) (w % 16777216) (f .status)) z, eq-eqb (f .wanted) 0 e, ne-eqb (w / 16777216) 0 o, le-ltb mostPayload (w % 16777216) n, ne-eqb (w % 16777216) 0 z)
+          rw (case-begun f w e o n, area-header f w C e, ready-wanting (frame (w / 16777216) (f .gathered) (w % 16777216) (f .notes)) z, eq-eqb (f .wanted) 0 e, ne-eqb (w / 16777216) 0 o, le-ltb mostPayload (w % 16777216) n, ne-eqb (w % 16777216) 0 z)
       go (last e) =
           let n : f .wanted ≡ 0 → ⊥ = λ z. omega arith in
           let g = gathering _ _ _ ok n in
           let o : f .opcode ≡ 0 → ⊥ = λ z. omega arith in
           let z : f .wanted - 1 ≡ 0 = omega arith in
-          rw (word-payload f w n, area-payload f w C n, ready-whole (frame (f .opcode) (f .gathered + 1) (f .wanted - 1) (f .status)) z o, ne-eqb (f .wanted) 0 n, eq-eqb (f .wanted) 1 e)
+          rw (word-payload f w n, area-payload f w C n, ready-whole (frame (f .opcode) (f .gathered + 1) (f .wanted - 1) (f .notes)) z o, ne-eqb (f .wanted) 0 n, eq-eqb (f .wanted) 1 e)
       go (more e) =
           let n : f .wanted ≡ 0 → ⊥ = λ z. omega arith in
           let o : f .wanted ≡ 1 → ⊥ = λ z. omega arith in
           let z : f .wanted - 1 ≡ 0 → ⊥ = λ z. omega arith in
-          rw (word-payload f w n, area-payload f w C n, ready-wanting (frame (f .opcode) (f .gathered + 1) (f .wanted - 1) (f .status)) z, ne-eqb (f .wanted) 0 n, ne-eqb (f .wanted) 1 o)
+          rw (word-payload f w n, area-payload f w C n, ready-wanting (frame (f .opcode) (f .gathered + 1) (f .wanted - 1) (f .notes)) z, ne-eqb (f .wanted) 0 n, ne-eqb (f .wanted) 1 o)
 
 -- a command that was run leaves none begun
 pub executed-idle : (m : Machine) → (s : State) (P : List ℕ) (D : List ℤ) (F : List Float) (C T M : List ℕ) → machine s P D F C T M ≡ executed asBox m
@@ -277,7 +275,7 @@ module _ {ws : List ℕ} {m₀ : Machine} {s : State} {f : Frame} {P : List ℕ}
         }
 
     -- and of one that is unknown, which paints nothing either
-    pub held-unknown : {f″ : Frame} {v : Verdict} → readyOf f′ ≡ true → commandOf (f′ .opcode) ≡ Unknown → v ≡ unknown → f″ ≡ frame 0 0 0 (bitOr (f′ .status) (bitsOf v))
+    pub held-unknown : {f″ : Frame} {v : Verdict} → readyOf f′ ≡ true → commandOf (f′ .opcode) ≡ Unknown → v ≡ unknown → f″ ≡ endedFrame f′ v
         → Held ws m₀ s f″ P D F C′ T M (k + 1)
     held-unknown {f″ = f″} r h u e = held-painted r (unknown-executed (withFrame s f′) C′ T M P D F (withFrame s f″) h (ap (withFrame s) (rw u at e))) refl refl refl
 

@@ -42,9 +42,9 @@ module _ {t m : ℕ} where
   unfolding header
   header-good c op n h z small =
       let i = begun-idle (c .opcode) (c .box .gathered) (c .wanted) (h .begun-ok) z in
-      let same : (v : _) → Good (dropped asBox c v .control) t m = λ v. record { settings = h .settings; begun-ok = h .begun-ok; stands = h .stands } in
-      either-good (eqb op 0) (dropped asBox c (Refused ZeroOpcode 0)) _ (λ e. same (Refused ZeroOpcode 0))
-      (λ e. either-good (ltb mostPayload n) (dropped asBox c (Refused CountTooLarge 0)) _ (λ f. same (Refused CountTooLarge 0))
+      let same : (v : _) → Good (dropped asBox c op v .control) t m = λ v. record { settings = h .settings; begun-ok = h .begun-ok; stands = h .stands } in
+      either-good (eqb op 0) (dropped asBox c op (Refused ZeroOpcode 0)) _ (λ e. same (Refused ZeroOpcode 0))
+      (λ e. either-good (ltb mostPayload n) (dropped asBox c op (Refused CountTooLarge 0)) _ (λ f. same (Refused CountTooLarge 0))
       (λ f. either-good (eqb n 0) (execute asBox (begun asBox c op 0)) (still asBox (begun asBox c op n))
       (λ g. executed-good (begun asBox c op 0) (h .settings) (rw (i .1) (omega arith)) (h .stands))
       (λ g. record {

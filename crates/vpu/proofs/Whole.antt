@@ -26,7 +26,7 @@ module _ {X : Type 0} (K : Keep X) where
   -- a machine with the command op begun, n words of it wanted still, and the box x
   abbrev pub gathering : Seen X → ℕ → ℕ → X → Seen X
   gathering m op n x = record {
-    control = record { settings = m .control .settings; status = m .control .status; opcode = op; wanted = n; box = x };
+    control = record { settings = m .control .settings; notes = m .control .notes; opcode = op; wanted = n; box = x };
     picture = m .picture;
   }
 

@@ -37,7 +37,7 @@ stateOf m = record {
   opcode = m .control .opcode;
   gathered = m .control .box .gathered;
   wanted = m .control .wanted;
-  status = m .control .status;
+  notes = m .control .notes;
 }
 
 -- a call's answer, and all that it leaves

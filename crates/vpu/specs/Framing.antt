@@ -2,9 +2,8 @@
 use Prim.Native.Nat.{ℕ, _-_, _/_, _%_}
 use mathlib.Core.Bool.{cond}
 use mathlib.Core.List.{List, [], _∷_}
-use lib.Bits.{bitOr}
 use lib.Dec.{eqb, ltb}
-use Rattle.verdict.specs.Verdict.{bitsOf}
+use Rattle.verdict.specs.Verdict.{notedOf}
 use Rattle.verdict.specs.declared.Reason.the-variants.{ZeroOpcode, CountTooLarge}
 use Rattle.verdict.specs.declared.Verdict.{Verdict}
 use Rattle.verdict.specs.declared.Verdict.the-variants.{Refused}
@@ -16,22 +15,22 @@ module _ {X : Type 0} (K : Keep X) where
   still c = record { control = c; paints = [] }
 
   -- only the header is dropped, so the next word is a header
-  abbrev pub dropped : Control X → Verdict → Step X
-  dropped c v = still (record { settings = c .settings; status = bitOr (c .status) (bitsOf v); opcode = c .opcode; wanted = c .wanted; box = c .box })
+  abbrev pub dropped : Control X → ℕ → Verdict → Step X
+  dropped c op v = still (record { settings = c .settings; notes = notedOf (c .notes) op v; opcode = c .opcode; wanted = c .wanted; box = c .box })
 
   abbrev pub begun : Control X → ℕ → ℕ → Control X
-  begun c op n = record { settings = c .settings; status = c .status; opcode = op; wanted = n; box = c .box }
+  begun c op n = record { settings = c .settings; notes = c .notes; opcode = op; wanted = n; box = c .box }
 
   -- "Opcode 0 sets bit 2 and is dropped, before the count is looked at. Count above 524,291 sets bit 3 .. Count 0 runs at once"
   unfoldable pub header : Control X → ℕ → ℕ → Step X
   header c op n =
-      cond (eqb op 0) (dropped c (Refused ZeroOpcode 0))
-      (cond (ltb mostPayload n) (dropped c (Refused CountTooLarge 0))
+      cond (eqb op 0) (dropped c op (Refused ZeroOpcode 0))
+      (cond (ltb mostPayload n) (dropped c op (Refused CountTooLarge 0))
       (cond (eqb n 0) (execute K (begun c op 0)) (still (begun c op n))))
 
   -- a payload word, and whether it is the last
   abbrev pub taken : Control X → ℕ → Control X
-  taken c w = record { settings = c .settings; status = c .status; opcode = c .opcode; wanted = c .wanted - 1; box = K .add w (c .box) }
+  taken c w = record { settings = c .settings; notes = c .notes; opcode = c .opcode; wanted = c .wanted - 1; box = K .add w (c .box) }
 
   unfoldable pub gather : Control X → ℕ → Step X
   gather c w = cond (eqb (c .wanted) 1) (execute K (taken c w)) (still (taken c w))

@@ -15,4 +15,4 @@ module _ {X : Type 0} (K : Keep X) where
 
   -- that command begun, and its payload complete: what `execute` is asked then
   abbrev pub complete : Control X → ℕ → List ℕ → Control X
-  complete c op payload = record { settings = c .settings; status = c .status; opcode = op; wanted = 0; box = added (c .box) payload }
+  complete c op payload = record { settings = c .settings; notes = c .notes; opcode = op; wanted = 0; box = added (c .box) payload }

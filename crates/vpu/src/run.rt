@@ -5,18 +5,16 @@ use execute::after_set;
 use execute::command::Command;
 use execute::command::Draw;
 use execute::command::command_of;
-use execute::command::unknown;
 use framing::Frame;
+use framing::ended;
 use framing::frame_of;
 use framing::with_frame;
 use state::State;
-use verdict::Verdict;
+use verdict::unknown;
 ghost use mathlib.Core.Path.{_≡_};
 ghost use mathlib.Core.Bool.{true};
 ghost use Prim.Native.Nat.{_≤_};
-ghost use lib.Bits.{bitOr};
 ghost use lib.ListN.{length};
-ghost use Rattle.verdict.specs.Verdict.{bitsOf};
 ghost use Rattle.screen.specs.Plane.{planeBytes};
 ghost use Rattle.screen.specs.Draw.{pixels};
 ghost use Rattle.store.specs.Slots.{slotsOk};
@@ -25,21 +23,9 @@ ghost use Rattle.execute.specs.declared.command.Command.the-variants.{Paints};
 ghost use Rattle.execute.specs.Commands.{commandOf};
 ghost use Rattle.execute.specs.Control.{executed};
 ghost use Rattle.execute.specs.Kept.{machine, asBox};
-ghost use Rattle.framing.specs.Frames.{frame, withFrame};
+ghost use Rattle.framing.specs.Frames.{withFrame};
 ghost use Rattle.vpu.specs.Framing.{run};
 ghost use Rattle.vpu.specs.Sound.{Sound};
-
-// No command is begun any more, and what was refused shows in the status.
-fn ended(f: Frame, verdict: Verdict) -> Frame
-    ensures { λ r. ⌜ r ≡ frame 0 0 0 (bitOr (f .status) (bitsOf verdict)) ⌝ }
-{
-    Frame {
-        opcode: 0,
-        gathered: 0,
-        wanted: 0,
-        status: verdict::status_after(f.status, verdict),
-    }
-}
 
 // A command that paints changes neither settings nor stores, so that the state need not be built
 // again: of the state it moves the frame alone.

@@ -1,9 +1,8 @@
 -- The calls' outcomes as a host in C sees them, case by case; a refused call hands everything back as it was given. Assumes nothing.
 use Prim.Native.Nat.{ℕ}
 use mathlib.Core.Path.{_≡_, refl, sym, ap, _∙_}
-use mathlib.Core.Bool.{Bool, true, false, not}
+use mathlib.Core.Bool.{Bool, true, false}
 use mathlib.Core.List.{List}
-use borrow.Author.Tests.{not-true, not-false}
 use lib.IntN.{ℤ}
 use lib.ListN.{length}
 use lib.Ieee.{Float}
@@ -16,13 +15,6 @@ use Rattle.vpu_c.specs.Plain.{stateIn, stateOut, switchesOk}
 use Rattle.vpu_c.specs.Calls.{Handed, handed, putOut, feedC}
 use Rattle.vpu_c.specs.declared.plain.VpuState.{VpuState}
 use Rattle.vpu_c.proofs.Back.{in-out, out-ok, out-in}
-
--- ---- what a callee's answer says of the test that it computes
-pub passed : {a b : Bool} → a ≡ b → not a ≡ false → b ≡ true
-passed e t = sym e ∙ not-false _ t
-
-pub failed : {a b : Bool} → a ≡ b → not a ≡ true → b ≡ false
-failed e t = sym e ∙ not-true _ t
 
 -- ---- from what the machine's call answers and leaves to the host's
 pub put-out : {k n : ℕ} {s : State} {v : VpuState} {P : List ℕ} {D : List ℤ} {F : List Float} {C T M : List ℕ} {o : Outcome}

@@ -64,7 +64,7 @@ stateIn v = record {
   opcode = v .opcode;
   gathered = v .gathered;
   wanted = v .wanted;
-  status = v .status;
+  notes = record { status = v .status };
 }
 
 abbrev pub stateOut : State → VpuState
@@ -78,7 +78,7 @@ stateOut s = record {
   opcode = s .opcode;
   gathered = s .gathered;
   wanted = s .wanted;
-  status = s .status;
+  status = s .notes .status;
 }
 
 -- is every switch 0 or 1?

@@ -4,6 +4,7 @@ use settings::Settings;
 use state::State;
 use store::SLOTS;
 use store::Slot;
+use verdict::Notes;
 ghost use mathlib.Core.Path.{_≡_};
 ghost use mathlib.Core.List.{map};
 ghost use Rattle.settings.specs.Settings.{allOf};
@@ -196,7 +197,7 @@ pub fn state_in(s: VpuState) -> State
         opcode: s.opcode,
         gathered: s.gathered,
         wanted: s.wanted,
-        status: s.status,
+        notes: Notes { status: s.status },
     }
 }
 
@@ -208,6 +209,7 @@ pub fn state_out(s: State) -> VpuState
     let lights = set.lights;
     let textures = s.textures;
     let models = s.models;
+    let notes = s.notes;
     VpuState {
         matrices,
         shading_mode: set.shading_mode,
@@ -218,7 +220,7 @@ pub fn state_out(s: State) -> VpuState
         opcode: s.opcode,
         gathered: s.gathered,
         wanted: s.wanted,
-        status: s.status,
+        status: notes.status,
     }
 }
 

@@ -22,18 +22,18 @@ mul-command c = search needs
 slice-write-command : tie.Need-slice-write-command
 slice-write-command c = search needs
 
-add-t8 : tie.Need-add-t8
-add-t8 c = search needs
+add-t9 : tie.Need-add-t9
+add-t9 c = search needs
 
-sub-t9 : tie.Need-sub-t9
-sub-t9 c = search needs
+sub-t10 : tie.Need-sub-t10
+sub-t10 c = search needs
 
 same-length : tie.Need-same-length
 same-length c = search needs
 
 returns-2 : tie.Need-returns-2
 returns-2 c =
-    let e = c .before .before .before .if1 .left in
+    let e = c .before .before .before .before .if1 .left in
     (sym (word-payload _ _ e), sym (area-payload _ _ _ e))
 
 pub take-word-spec : {M : Type 1} → statement M
@@ -45,7 +45,7 @@ take-word-spec =
     cast-at
     mul-command
     slice-write-command
-    add-t8
-    sub-t9
+    add-t9
+    sub-t10
     same-length
     returns-2)

@@ -1,7 +1,7 @@
 -- The mode and the number, then the checks with the matrix in hand. Assumes nothing.
 use mathlib.Core.Path.{_∙_}
 use borrow.Author.Needs.{needs}
-use Rattle.payload.proofs.Done.{none-handed}
+use Rattle.verdict.proofs.Checks.{none-handed}
 use Rattle.judge.proofs.Laws.{textured-refused, textured-checked}
 use Rattle.judge.proofs.model_triangle.Statement.{statement}
 use Rattle.judge.proofs.model_triangle.Tie as tie

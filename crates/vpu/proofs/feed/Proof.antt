@@ -1,19 +1,11 @@
 -- By the tests of the lengths and of the state, in that order: each answer is a case of the definition. Assumes nothing.
-use mathlib.Core.Path.{_≡_, sym, _∙_, ap}
-use mathlib.Core.Bool.{Bool, true, false, not}
+use mathlib.Core.Path.{sym, _∙_, ap}
 use borrow.Author.Needs.{needs}
-use borrow.Author.Tests.{not-true, not-false}
+use Rattle.laws.proofs.Bools.{passed, failed}
 use Rattle.vpu.specs.Calls.{outcome}
 use Rattle.vpu.proofs.Laws.{sound, feed-wrong, feed-malformed, feed-done}
 use Rattle.vpu.proofs.feed.Statement.{statement}
 use Rattle.vpu.proofs.feed.Tie as tie
-
--- what a callee's answer says of the test that it computes
-passed : {a b : Bool} → a ≡ b → not a ≡ false → b ≡ true
-passed e t = sym e ∙ not-false _ t
-
-failed : {a b : Bool} → a ≡ b → not a ≡ true → b ≡ false
-failed e t = sym e ∙ not-true _ t
 
 -- the places that the answers look at
 abbrev tested : tie.After-run-words-arg6 → tie.Else2

@@ -1,7 +1,8 @@
 -- By the tests of the switches and of the lengths; else by what the machine's call ensures, between `stateIn` and `stateOut`. Assumes nothing.
 use mathlib.Core.Path.{sym}
 use borrow.Author.Needs.{needs}
-use Rattle.vpu_c.proofs.Laws.{passed, failed, feed-c-wrong, feed-c-switch, fed}
+use Rattle.laws.proofs.Bools.{passed, failed}
+use Rattle.vpu_c.proofs.Laws.{feed-c-wrong, feed-c-switch, fed}
 use Rattle.vpu_c.proofs.vpu_feed.Statement.{statement}
 use Rattle.vpu_c.proofs.vpu_feed.Tie as tie
 

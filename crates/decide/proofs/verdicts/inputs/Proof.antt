@@ -1,5 +1,5 @@
 -- Vertex by vertex; each ends within the words. Assumes nothing.
-use Rattle.payload.proofs.Done.{stopped, passed-on}
+use Rattle.verdict.proofs.Checks.{stopped, passed-on}
 use Rattle.decide.proofs.Words.{laid}
 use native.Mathlib.Omega.{arith}
 use Rattle.decide.specs.Verdicts.{inputsOf}

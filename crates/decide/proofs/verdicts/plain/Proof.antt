@@ -2,7 +2,7 @@
 use mathlib.Core.Path.{_∙_}
 use native.Mathlib.Omega.{arith}
 use borrow.Author.Needs.{needs}
-use Rattle.payload.proofs.Done.{stopped, passed-on, none-handed}
+use Rattle.verdict.proofs.Checks.{stopped, passed-on, none-handed}
 use Rattle.decide.specs.Corners.{normalMatrixOf, cornersBy, cornersOf}
 use Rattle.decide.specs.Verdicts.{plainOf, texturedBy, checkedVerdict}
 use Rattle.decide.proofs.verdicts.plain.Statement.{statement}

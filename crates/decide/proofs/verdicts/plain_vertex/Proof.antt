@@ -1,5 +1,5 @@
 -- The position, then the texture coordinates. Assumes nothing.
-use Rattle.payload.proofs.Done.{stopped, passed-on}
+use Rattle.verdict.proofs.Checks.{stopped, passed-on}
 use Rattle.decide.specs.Verdicts.{plainVertex}
 use borrow.Author.Needs.{needs}
 use Rattle.decide.proofs.verdicts.plain_vertex.Statement.{statement}

@@ -1,6 +1,6 @@
 -- Vertex by vertex. Assumes nothing.
 use mathlib.Core.Bool.{false}
-use Rattle.payload.proofs.Done.{stopped, passed-on}
+use Rattle.verdict.proofs.Checks.{stopped, passed-on}
 use Rattle.decide.proofs.Words.{laid}
 use native.Mathlib.Omega.{arith}
 use borrow.Author.Needs.{needs}

@@ -3,7 +3,7 @@ use mathlib.Core.Path.{_≡_, _∙_}
 use lib.ListN.{length}
 use native.Mathlib.Omega.{arith}
 use borrow.Author.Needs.{needs}
-use Rattle.payload.proofs.Done.{none-handed}
+use Rattle.verdict.proofs.Checks.{none-handed}
 use Rattle.decide.specs.Corners.{cornersOf}
 use Rattle.decide.proofs.Decided.{lit-is}
 use Rattle.decide.proofs.verdicts.textured.Statement.{statement}

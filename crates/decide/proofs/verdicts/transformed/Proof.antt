@@ -2,7 +2,7 @@
 use mathlib.Core.Path.{_≡_, sym, _∙_}
 use mathlib.Core.Bool.{false}
 use Rattle.vector.specs.declared.normal.Inverse.the-variants.{Of}
-use Rattle.payload.proofs.Done.{stopped, passed-on, none-handed}
+use Rattle.verdict.proofs.Checks.{stopped, passed-on, none-handed}
 use Rattle.decide.specs.Corners.{normalMatrixOf}
 use Rattle.decide.specs.Verdicts.{transformedBy, transformedVerdict}
 use Rattle.decide.proofs.Decided.{corners-are, transformed-is}

@@ -1,6 +1,6 @@
 -- The mode and the number, then the matrix and the words. Assumes nothing.
 use borrow.Author.Needs.{needs}
-use Rattle.payload.proofs.Done.{stopped, passed-on}
+use Rattle.verdict.proofs.Checks.{stopped, passed-on}
 use Rattle.judge.proofs.model.record_verdict.Statement.{statement}
 use Rattle.judge.proofs.model.record_verdict.Tie as tie
 

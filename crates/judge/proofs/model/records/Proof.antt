@@ -6,7 +6,7 @@ use native.Mathlib.Omega.{arith}
 use borrow.Author.Needs.{needs}
 use lib.ListN.{drop}
 use Rattle.payload.specs.Words.{wordAt}
-use Rattle.payload.proofs.Done.{stopped, passed-on}
+use Rattle.verdict.proofs.Checks.{stopped, passed-on}
 use Rattle.decide.specs.Verdicts.{texturedVerdict, triangleOf, recordsVerdict}
 use Rattle.judge.specs.Judge.{heldIn}
 use Rattle.judge.proofs.Laws.{record-is, records-next, records-none}

@@ -9,11 +9,11 @@ use Rattle.replay.proofs.tape.joined.Statement.{statement}
 use Rattle.replay.proofs.tape.joined.Tie as tie
 
 abbrev Inv-loop : tie.InvT-loop
-Inv-loop tape₀ at₀ to₀ left₀ tape at to left =
-    (at ≤ length tape) × ((to ≤ at) × (length tape ≡ length tape₀))
+Inv-loop tape₀ n at₀ to₀ left₀ tape at to left =
+    (at ≤ n) × ((to ≤ at) × ((n ≤ length tape₀) × (length tape ≡ length tape₀)))
 
 abbrev μ-loop : tie.MeasureT-loop
-μ-loop tape₀ at₀ to₀ left₀ tape at to left = length tape - at
+μ-loop tape₀ n at₀ to₀ left₀ tape at to left = n - at
 
 loop-holds : tie.Need-loop-holds Inv-loop μ-loop
 loop-holds c = search needs
@@ -46,7 +46,7 @@ sub-left : tie.Need-sub-left Inv-loop μ-loop
 sub-left c = search needs
 
 loop-less-2 : tie.Need-loop-less-2 Inv-loop μ-loop
-loop-less-2 c = simp length-set (omega arith)
+loop-less-2 c = search needs
 
 loop-again-2 : tie.Need-loop-again-2 Inv-loop μ-loop
 loop-again-2 c = simp length-set (omega arith)

@@ -1,6 +1,6 @@
 -- The determinant and the corner are the definition's by what the calls ensure, and each way out is what `cond` picks. Assumes nothing.
-use mathlib.Core.Path.{_≡_, refl, sym, ap, _∙_}
-use mathlib.Core.Bool.{Bool, true, false, _&&_}
+use mathlib.Core.Path.{_≡_, sym, ap, _∙_}
+use mathlib.Core.Bool.{true, false, and-false}
 use lib.Ieee.{Float}
 use lib.Ieee.Scale.{finite}
 use Rattle.ieee.specs.Units.{one32}
@@ -12,10 +12,6 @@ use Rattle.vector.specs.declared.normal.Inverse.the-variants.{Of, Singul
 use borrow.Author.Needs.{needs}
 use Rattle.vector.proofs.normal.inverse_transpose_3x3.Statement.{statement}
 use Rattle.vector.proofs.normal.inverse_transpose_3x3.Tie as tie
-
-and-false : (b : Bool) → (b && false) ≡ false
-and-false true = refl
-and-false false = refl
 
 module _ (det : Float) (m : Matrix3) where
   singular : tinyOf det ≡ true → Singular ≡ inverseBy det m

@@ -2,7 +2,7 @@
 use borrow.Author.Tests.{le-leb, lt-leb}
 use borrow.Author.Needs.{needs}
 use Rattle.vpu_c.specs.Plain.{switchesOk}
-use Rattle.vpu_c.proofs.Laws.{passed, failed}
+use Rattle.laws.proofs.Bools.{passed, failed}
 use Rattle.vpu_c.proofs.plain.switches_ok.Statement.{statement}
 use Rattle.vpu_c.proofs.plain.switches_ok.Tie as tie
 

@@ -1,0 +1,46 @@
+use borrow.Author.Needs.{needs}
+use Prim.Native.Nat.{_-_, _≤_}
+use Rattle.trial.proofs.job.of.Statement.{statement}
+use Rattle.trial.proofs.job.of.Tie as tie
+
+abbrev Inv-loop : tie.InvT-loop
+Inv-loop l p₀ k₀ p k =
+    k ≤ 59
+
+abbrev μ-loop : tie.MeasureT-loop
+μ-loop l p₀ k₀ p k = 59 - k
+
+loop-holds : tie.Need-loop-holds Inv-loop μ-loop
+loop-holds c = search needs
+
+op-at-requires : tie.Need-op-at-requires Inv-loop μ-loop
+op-at-requires c κs = search needs
+
+planned-requires : tie.Need-planned-requires Inv-loop μ-loop
+planned-requires c κs = search needs
+
+add-k : tie.Need-add-k Inv-loop μ-loop
+add-k c = search needs
+
+loop-less : tie.Need-loop-less Inv-loop μ-loop
+loop-less c = search needs
+
+loop-again : tie.Need-loop-again Inv-loop μ-loop
+loop-again c = search needs
+
+returns : tie.Need-returns Inv-loop μ-loop
+returns c = search needs
+
+pub of-spec : {M : Type 1} → statement M
+of-spec =
+    tie.close
+    (tie.spec
+    Inv-loop
+    μ-loop
+    loop-holds
+    op-at-requires
+    planned-requires
+    add-k
+    loop-less
+    loop-again
+    returns)

@@ -1,0 +1,56 @@
+-- `trial::mark::all_floats`: the loop stays within the memory. Assumes nothing.
+use borrow.Author.Needs.{needs}
+use lib.ListN.{length}
+use Prim.Native.Nat.{_-_, _≤_}
+use Rattle.trial.proofs.mark.all_floats.Statement.{statement}
+use Rattle.trial.proofs.mark.all_floats.Tie as tie
+
+abbrev Inv-loop : tie.InvT-loop
+Inv-loop s v i₀ i =
+    i ≤ length s
+
+abbrev μ-loop : tie.MeasureT-loop
+μ-loop s v i₀ i = length s - i
+
+loop-holds : tie.Need-loop-holds Inv-loop μ-loop
+loop-holds c = search needs
+
+mul-bits-of : tie.Need-mul-bits-of Inv-loop μ-loop
+mul-bits-of c = search needs
+
+shared-slice-read-bits-of : tie.Need-shared-slice-read-bits-of Inv-loop μ-loop
+shared-slice-read-bits-of c = search needs
+
+bits-of-requires : tie.Need-bits-of-requires Inv-loop μ-loop
+bits-of-requires c κs = search needs
+
+returns : tie.Need-returns Inv-loop μ-loop
+returns c = search needs
+
+add-i : tie.Need-add-i Inv-loop μ-loop
+add-i c = search needs
+
+loop-less : tie.Need-loop-less Inv-loop μ-loop
+loop-less c = search needs
+
+loop-again : tie.Need-loop-again Inv-loop μ-loop
+loop-again c = search needs
+
+returns-2 : tie.Need-returns-2 Inv-loop μ-loop
+returns-2 c = search needs
+
+pub all-floats-spec : {M : Type 1} → statement M
+all-floats-spec =
+    tie.close
+    (tie.spec
+    Inv-loop
+    μ-loop
+    loop-holds
+    mul-bits-of
+    shared-slice-read-bits-of
+    bits-of-requires
+    returns
+    add-i
+    loop-less
+    loop-again
+    returns-2)
