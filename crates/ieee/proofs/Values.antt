@@ -1,4 +1,4 @@
--- A value of binary32 is known by its number, rounding it gives it back, and adding it to -0.0 too: so a sum that starts from -0.0 is the sum that starts from its first term.
+-- A value of a format is known by its number. Rounding a value of binary32 gives it back, and adding it to -0.0 too: so a sum that starts from -0.0 is the sum that starts from its first term.
 -- Assumes nothing.
 use mathlib.Core.Path.{_≡_, refl, sym, ap, _∙_}
 use mathlib.Core.Bool.{Bool, true, false, cond, _&&_}
@@ -9,7 +9,7 @@ use borrow.Author.Tests.{ltb-false, ltb-true, le-ltb}
 use lib.Dec.{T, ltb, leb, eqb, leb→le}
 use lib.IntN.{ℤ, pos, negsuc}
 use lib.Pow.{pow-pos, pow-mono, pow-add, pow-lt}
-use lib.Ieee.{Float, nan, inf, fin, binary32, up, down, size, add, round, toBits, ofBits, fits}
+use lib.Ieee.{Float, nan, inf, fin, Format, binary32, prec, low, hid, top, up, down, size, add, round, toBits, ofBits, fits}
 use lib.Ieee.Bits.{ofBits-toBits}
 use lib.Ieee.Exact.{HasValue, round-exact}
 use lib.Ieee.Fits.{and-l, and-r, round-fits, down-pos}
@@ -17,36 +17,36 @@ use lib.Ieee.Nearest.{div-same}
 use Rattle.ieee.specs.Units.{wholes}
 use Rattle.ieee.proofs.Nearest.{grid}
 
--- ---- two values with one sign and one number a / c
+-- ---- two values of a format with one sign and one number a / c
 cancel : (a b c : ℕ) → 0 < c → a * c ≡ b * c → a ≡ b
 cancel a b c C h = le-antisymm (le-of-mul-le-mul-right (le-of-eq h) C) (le-of-mul-le-mul-right (le-of-eq (sym h)) C)
 
 swap : (x d c : ℕ) → x * d * c ≡ x * c * d
 swap x d c = mul-right-comm x d c
 
-same-units : (s t : Bool) (m l : ℕ) (e g : ℤ) (a c : ℕ) → 0 < c → m * up e * c ≡ a * down e → l * up g * c ≡ a * down g → wholes (fin s m e) ≡ wholes (fin t l g)
-unfolding wholes
-same-units s t m l e g a c C h k =
+same-units : (f : Format) (m l : ℕ) (e g : ℤ) (a c : ℕ) → 0 < c → m * up e * c ≡ a * down e → l * up g * c ≡ a * down g → m * up e * 2 ^ low f / down e ≡ l * up g * 2 ^ low f / down g
+same-units f m l e g a c C h k =
     let i : m * up e * down g ≡ l * up g * down e =
     cancel (m * up e * down g) (l * up g * down e) c C
     (swap (m * up e) (down g) c ∙ ap (λ (x : ℕ). x * down g) h ∙ swap a (down e) (down g) ∙ ap (λ (x : ℕ). x * down e) (sym k) ∙ swap (l * up g) c (down e)) in
-    div-same (m * up e * 2 ^ 149) (down e) (l * up g * 2 ^ 149) (down g) (down-pos e) (down-pos g)
-    (swap (m * up e) (2 ^ 149) (down g) ∙ ap (λ (x : ℕ). x * 2 ^ 149) i ∙ swap (l * up g) (down e) (2 ^ 149))
+    div-same (m * up e * 2 ^ low f) (down e) (l * up g * 2 ^ low f) (down g) (down-pos e) (down-pos g)
+    (swap (m * up e) (2 ^ low f) (down g) ∙ ap (λ (x : ℕ). x * 2 ^ low f) i ∙ swap (l * up g) (down e) (2 ^ low f))
 
-pub same-number : (x y : Float) (s : Bool) (a c : ℕ) → 0 < c → HasValue x s a c → HasValue y s a c → T (fits binary32 x) → T (fits binary32 y) → x ≡ y
-unfolding wholes toBits
-same-number nan y s a c C h k p q = absurd h
-same-number (inf t) y s a c C h k p q = absurd h
-same-number (fin t m e) nan s a c C h k p q = absurd k
-same-number (fin t m e) (inf u) s a c C h k p q = absurd k
-same-number (fin t m e) (fin u l g) s a c C h k p q =
-    sym (ofBits-toBits binary32 (fin t m e) p)
-    ∙ ap (λ (b : Bool). ofBits binary32 (bits b (wholes (fin t m e)))) (h .0 ∙ sym (k .0))
-    ∙ ap (λ (n : ℕ). ofBits binary32 (bits u n)) (same-units t u m l e g a c C (h .1) (k .1))
-    ∙ ofBits-toBits binary32 (fin u l g) q
-  where
-    bits : Bool → ℕ → ℕ
-    bits b n = cond b 2147483648 0 + (size n - 24) * 8388608 + n / 2 ^ (size n - 24)
+-- `toBits`, from the sign and the units on
+abbrev bits : Format → Bool → ℕ → ℕ
+bits f b n = cond b (top f) 0 + (size n - prec f) * hid f + n / 2 ^ (size n - prec f)
+
+pub same-number : (f : Format) (x y : Float) (s : Bool) (a c : ℕ) → 0 < c → HasValue x s a c → HasValue y s a c → T (fits f x) → T (fits f y) → x ≡ y
+unfolding toBits
+same-number f nan y s a c C h k p q = absurd h
+same-number f (inf t) y s a c C h k p q = absurd h
+same-number f (fin t m e) nan s a c C h k p q = absurd k
+same-number f (fin t m e) (inf u) s a c C h k p q = absurd k
+same-number f (fin t m e) (fin u l g) s a c C h k p q =
+    sym (ofBits-toBits f (fin t m e) p)
+    ∙ ap (λ (b : Bool). ofBits f (bits f b (m * up e * 2 ^ low f / down e))) (h .0 ∙ sym (k .0))
+    ∙ ap (λ (n : ℕ). ofBits f (bits f u n)) (same-units f m l e g a c C (h .1) (k .1))
+    ∙ ofBits-toBits f (fin u l g) q
 
 -- ---- a value of binary32 is its units exactly
 div-back : (x q d : ℕ) → 0 < d → x ≡ q * d → x ≡ x / d * d
@@ -78,7 +78,7 @@ round-self s n d num den t D h =
     cancel (num * 2 ^ 149) (w * den) (down d) (down-pos d)
     (swap num (2 ^ 149) (down d) ∙ ap (λ (x : ℕ). x * 2 ^ 149) h ∙ swap (n * up d) den (2 ^ 149) ∙ ap (λ (x : ℕ). x * den) (exact s n d t ∙ ap (λ (x : ℕ). x * down d) (g .2)) ∙ swap w (down d) den) in
     let small : w < 2 ^ 277 = lt-of-lt-of-le (mul-lt-mul-of-pos-right (g .3) (pow-pos (g .1))) (mul-le-mul {n₂ = 16777216} {m₂ = 2 ^ 253} (omega arith) (pow-mono (le-of-suc-le-suc (g .4)))) in
-    same-number (round binary32 s num den) (fin s n d) s num den D (round-exact binary32 s num den (g .0) (g .1) D (g .3) small u) (refl, sym h) (round-fits binary32 s num den) t
+    same-number binary32 (round binary32 s num den) (fin s n d) s num den D (round-exact binary32 s num den (g .0) (g .1) D (g .3) small u) (refl, sym h) (round-fits binary32 s num den) t
 
 -- ---- a sum from -0.0
 abbrev pub minus-zero : Float

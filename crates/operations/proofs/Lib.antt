@@ -1,0 +1,6 @@
+pub mod Operations
+pub mod Zeros
+pub mod Specials
+pub mod Order
+pub mod Conversions
+pub mod Patterns
