@@ -14,6 +14,10 @@
  *     with the length 0 is not read or written through, and is not null either;
  *   - no two of the buffers lent to one call overlap, the words of a feed among them;
  *   - nothing else reads or writes them while the call runs;
+ *   - floats round to nearest, and subnormals are kept: the processor's state at the start of a program. A host
+ *     that is linked with -ffast-math has another, as has one that changes the rounding;
+ *   - 64 kilobytes of stack are left (the calls took 41 at most on the stored streams: examples/stack.c);
+ *   - the compiler lays the structs below out as the archive's does (examples/layout.c tries every field);
  *   - from a reset answered 0 on, each feed gets the state that the call before it gave back, and the memory
  *     as that call left it. (A host may change either: every call still has an answer, and does to that
  *     memory what the rules say. But then it is not drawing what its words say.)
