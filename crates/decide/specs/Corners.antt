@@ -78,7 +78,7 @@ cornerOf p o normal textured m matrix =
 abbrev pub corner : List ClipVertex → ℕ → ClipVertex
 corner tri i = getD tri i noVertex
 
--- ---- the normal matrix: of 16 and 19 the inverse of the model-view's, transposed; 14 and 18 "never look"
+-- ---- the normal matrix: of 16 and 19 the inverse of the model-view's, transposed; 14 and 18 never look
 abbrev pub zero3 : Matrix3
 zero3 = record { a = zero32; b = zero32; c = zero32; d = zero32; e = zero32; f = zero32; g = zero32; h = zero32; i = zero32 }
 

@@ -50,14 +50,14 @@ unfoldable pub transformedVerdict : List ℕ → Bool → List Float → Verdict
 transformedVerdict p normal m = transformedBy p normal (normalMatrixOf m normal) (cornersOf p normal false m)
 
 -- ---- 18 and 19
--- 18 "never tests input positions: per vertex the transformed position, then u, v"; 19 the words as they come, and no transformed position
+-- 18 never tests input positions: per vertex the transformed position, then u, v; 19 the words as they come, and no transformed position
 unfoldable pub plainVertex : List ℕ → ClipVertex → ℕ → Verdict
 plainVertex p v o = andThen (reachedOf v o) (finiteFrom p (o + 3) 2)
 
 unfoldable pub plainOf : List ℕ → List ClipVertex → Verdict
 plainOf p tri = eachOf (λ i. plainVertex p (corner tri i) (firstOf false true i))
 
--- the matrix "before any vertex word"
+-- the matrix before any vertex word
 unfoldable pub texturedBy : List ℕ → Bool → Inverse → List ClipVertex → Verdict
 texturedBy p normal inverse tri = andThen (invertibleOf inverse) (cond normal (inputsOf p true true) (plainOf p tri))
 
@@ -65,15 +65,15 @@ texturedBy p normal inverse tri = andThen (invertibleOf inverse) (cond normal (i
 unfoldable pub checkedVerdict : List ℕ → Bool → List Float → Verdict
 checkedVerdict p normal m = texturedBy p normal (normalMatrixOf m normal) (cornersOf p normal true m)
 
--- the mode "(index 1) before the number (index 0)"
+-- the mode (index 1) before the number (index 0)
 unfoldable pub texturedVerdict : List ℕ → Bool → Bool → List Float → Verdict
 texturedVerdict p normal held m = andThen (atMost p 1 2) (andThen (heldOf held) (checkedVerdict p normal m))
 
--- ---- 1B: "each record of 28 words becomes a 29-word triangle"
+-- ---- 1B: each record of 28 words becomes a 29-word triangle
 abbrev pub triangleOf : ℕ → List ℕ → List ℕ
 triangleOf mode words = wordAt words 0 ∷ mode ∷ take 27 (drop 1 words)
 
--- "the first refused one gives the draw's verdict": n records from the words' start on. `has k`: a texture is held under k
+-- the first refused one gives the draw's verdict: n records from the words' start on. `has k`: a texture is held under k
 unfoldable pub recordsVerdict : ℕ → (ℕ → Bool) → List Float → ℕ → List ℕ → Verdict
 recordsVerdict mode has m zero words = Done
 recordsVerdict mode has m (suc n) words =

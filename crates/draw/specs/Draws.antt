@@ -18,7 +18,7 @@ use Rattle.decide.specs.Corners.{corner, cornersOf}
 use Rattle.decide.specs.Verdicts.{transformedVerdict, checkedVerdict, triangleOf}
 use Rattle.lit.specs.Lit.{transformedLit, texturedLit}
 
--- `flat_color`: "vertex 0's of the triangle before clipping"
+-- `flat_color`: vertex 0's of the triangle before clipping
 unfoldable pub flatColor : List ClipVertex → Color
 flatColor tri =
     let c = corner tri 0 .color in

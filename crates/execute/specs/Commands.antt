@@ -78,7 +78,7 @@ wrongLength = Refused WrongLength 0
 abbrev pub ofLength : {A : Type 0} → ℕ → List ℕ → A → A → A
 ofLength n p a b = cond (eqb (length p) n) a b
 
--- ---- those that set: "01, 2 words: (0, 0..1) shading mode; (1, 0..1) lighting. 02, 17 words: matrix 0..2 and 16 floats. 15, 17 words: light 0..7, switch 0..1, 15 floats"
+-- ---- those that set: 01, 2 words: (0, 0..1) shading mode; (1, 0..1) lighting. 02, 17 words: matrix 0..2 and 16 floats. 15, 17 words: light 0..7, switch 0..1, 15 floats
 abbrev pub settingWords : Setting → ℕ
 settingWords setting.Mode = 2
 settingWords setting.Matrix = 17
@@ -93,7 +93,7 @@ unfoldable pub settingsAfter : Settings → Setting → List ℕ → Changed
 settingsAfter s x p = ofLength (settingWords x) p (setBy s x p) (changed wrongLength s s)
 
 -- ---- those that load
--- "17 tests the least length, then width 0, height 0, width above 1024, height above 1024, then the exact length"
+-- 17 tests the least length, then width 0, height 0, width above 1024, height above 1024, then the exact length
 unfoldable pub textureVerdict : List ℕ → Verdict
 textureVerdict p =
     let w = wordAt p 1 in
@@ -105,7 +105,7 @@ textureVerdict p =
     (cond (ltb 1024 h) (Refused OutOfRange 2)
     (ofLength (3 + areaOf Texture w h) p Done wrongLength)))))
 
--- "1A the least length, then its count, then the exact length"
+-- 1A the least length, then its count, then the exact length
 unfoldable pub countVerdict : List ℕ → Verdict
 countVerdict p =
     cond (ltb (length p) 2) wrongLength

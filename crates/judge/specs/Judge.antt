@@ -23,7 +23,7 @@ isAt Nothing = false
 abbrev pub heldIn : List Slot → ℕ → Bool
 heldIn slots n = isAt (slotFor n slots)
 
--- "18, 19 and 1B test the mode (index 1) before the number (index 0)"
+-- 18, 19 and 1B test the mode (index 1) before the number (index 0)
 unfoldable pub namedVerdict : List ℕ → List Slot → Verdict
 namedVerdict p slots = andThen (atMost p 1 2) (heldOf (heldIn slots (wordAt p 0)))
 

@@ -23,7 +23,7 @@ viewOf p = normalOf (neg (at p 0) ∷ neg (at p 1) ∷ neg (at p 2) ∷ [])
 abbrev pub toLightOf : List Float → List Float → List Float
 toLightOf l p = normalOf (at l 0 ⊖ at p 0 ∷ at l 1 ⊖ at p 1 ∷ at l 2 ⊖ at p 2 ∷ [])
 
--- `ndotl` and `ndoth`: "maximum with 0 turns [NaN] into 0"
+-- `ndotl` and `ndoth`: the maximum with 0 turns NaN into 0
 abbrev pub facing : List Float → List Float → Float
 facing n d = maxOf (dotOf n d)
 

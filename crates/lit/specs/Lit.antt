@@ -18,7 +18,7 @@ withColor v c = record { position = v .position; «view_position» = v .«view_p
 abbrev pub shadedBy : List Light → ClipVertex → List Float → List Float
 shadedBy lights v normal = shadeOf (v .color) (v .«view_position») normal lights
 
--- ---- 16: with shading 0 one colour, "the normalised sum of the vertex normals at vertex 0's position"; else each vertex by its own normal
+-- ---- 16: with shading 0 one colour, the normalised sum of the vertex normals at vertex 0's position; else each vertex by its own normal
 abbrev pub sumOf : List ClipVertex → ℕ → Float
 sumOf tri axis = at (corner tri 0 .normal) axis ⊕ at (corner tri 1 .normal) axis ⊕ at (corner tri 2 .normal) axis
 
@@ -35,7 +35,7 @@ ownLit lights v = withColor v (shadedBy lights v (v .normal))
 abbrev pub eachLit : (ClipVertex → ClipVertex) → List ClipVertex → List ClipVertex
 eachLit f tri = f (corner tri 0) ∷ f (corner tri 1) ∷ f (corner tri 2) ∷ []
 
--- "14 is never lit". `on` is `lighting_enabled`, and shading `shading_mode`
+-- 14 is never lit. `on` is `lighting_enabled`, and shading `shading_mode`
 unfoldable pub transformedLit : Bool → ℕ → List Light → Bool → List ClipVertex → List ClipVertex
 transformedLit on shading lights normal tri =
     cond (normal && on)

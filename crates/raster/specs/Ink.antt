@@ -97,7 +97,7 @@ tonedOf Plain t b = rgbaOf (plainOf t)
 tonedOf (Tinted c) t b = rgbaOf (tintedOf (plainOf t) c)
 tonedOf (Mixed c) t b = rgbaOf (tintedOf (plainOf t) (mixedOf c b))
 
--- ---- what an ink gives: "where the denominator is at most 2^-23 in size, the depth is stored and the pixel is not" (the first `cond`)
+-- ---- what an ink gives: where the denominator is at most 2^-23 in size, the depth is stored and the pixel is not (the first `cond`)
 unfoldable pub shadeOf : List ℕ → Ink → Corners → Corners → Shade
 shadeOf texels (Flat c) b i = Of c
 shadeOf texels (Blend c) b i = cond (tinyOf (mixOf b i)) Blank (Of (rgbaOf (blendOf c b i (mixOf b i))))

@@ -59,7 +59,7 @@ fourFrom plane j = getD plane j 0 ∷ getD plane (j + 1) 0 ∷ getD plane (j + 2
 abbrev pub colourAt : List ℕ → ℕ → ℕ → List ℕ
 colourAt plane x y = cond (ltb x width && ltb y height) (fourFrom plane ((y * width + x) * 4)) nothing
 
--- "1: a lent length is wrong .. pixel: four zeros"
+-- 1: the length is wrong, with four zeros
 unfoldable pub pixelOf : List ℕ → ℕ → ℕ → Answered
 pixelOf plane x y =
     cond (eqb (length plane) planeBytes) (record { number = 0; bytes = colourAt plane x y }) (record { number = 1; bytes = nothing })

@@ -160,7 +160,7 @@ pub length-wordsOf : (us : List Whole) → length (wordsOf us) ≡ total (cards 
 length-wordsOf [] = refl
 length-wordsOf (u ∷ us) = length-append (u .words) (wordsOf us) ∙ ap (λ (n : ℕ). length (u .words) + n) (length-wordsOf us)
 
--- ---- what the answer "it fits" gives: the new words fit beside the other numbers', and so does the slot
+-- ---- what the answer `Fits` gives: the new words fit beside the other numbers', and so does the slot
 pub record Space (size : ℕ) (cs : List Card) (n new : ℕ) : Type 0 where
   pub words : total (without n cs) + new ≤ size
   pub slot : length (without n cs) < 64

@@ -16,7 +16,7 @@ use Rattle.store.specs.declared.Kind.the-variants.{Texture, Model}
 use Rattle.store.specs.declared.Found.{Found}
 use Rattle.store.specs.declared.Found.the-variants.{At, Nothing}
 
--- "A texture takes (width × height + 1) / 2 words; a model 28n"
+-- "A texture takes (width × height + 1) / 2 words .. a model 28n"
 abbrev pub areaOf : Kind → ℕ → ℕ → ℕ
 areaOf Texture w h = (w * h + 1) / 2
 areaOf Model n h = 28 * n

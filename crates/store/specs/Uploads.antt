@@ -78,7 +78,7 @@ slotCount = 64
 abbrev pub counted : ℕ → List Card → ℕ
 counted n cs = total cs
 
--- "bit 6 is set exactly when the number is new and 64 are held, or words in use plus the new words exceed the store"
+-- bit 6 is set exactly when the number is new and 64 are held, or words in use plus the new words exceed the store
 abbrev pub room : ℕ → List Card → ℕ → ℕ → Room
 room size cs n new =
     cond (not (holds n cs) && leb slotCount (length cs)) NoSlot (cond (ltb size (counted n cs + new)) NoWords Fits)
