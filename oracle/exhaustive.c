@@ -1,5 +1,6 @@
 /* Every binary32 pattern through the proved float leaves (archive of crate ieee_c) and through the
    machine's own operations. One line per function: name, patterns, differences, first differing pattern.
+   With --only NAME: that function alone.
    With --time: nanoseconds per call of the root and of the cast to a byte, beside the machine's own.
    NaNs count as one value, and are told by their bits: a compiler may drop a test that only picks
    between two NaNs. */
@@ -18,6 +19,9 @@ int32_t ieee_floor_i32(float);
 int32_t ieee_ceil_i32(float);
 uint8_t ieee_byte(float);
 uint8_t ieee_unit_byte(float);
+uint32_t ieee_first(float);
+uint32_t ieee_past(float);
+size_t ieee_texel(float, uint32_t side);
 bool ieee_is_finite(float);
 float ieee_clamp01(float);
 float ieee_max0(float);
@@ -56,8 +60,24 @@ static inline uint8_t saturated_u8(float x) {
   return x > 0.0f ? (uint8_t)(int32_t)x : 0;
 }
 
-static inline float clamp01(float x) {
-  return x < 0.0f ? 0.0f : x > 1.0f ? 1.0f : x;
+static inline float clamped(float x, float most) {
+  return x < 0.0f ? 0.0f : x > most ? most : x;
+}
+
+/* The first pixel of a box from x on, and the first one past a box up to x: from 0 on. */
+static inline uint32_t first(float x) {
+  int32_t at = saturated_i32(floorf(x));
+  return at > 0 ? (uint32_t)at : 0;
+}
+
+static inline uint32_t past(float x) {
+  int64_t at = (int64_t)saturated_i32(ceilf(x)) + 1;
+  return at > 0 ? (uint32_t)at : 0;
+}
+
+static inline size_t texel(float u, uint32_t side) {
+  float at = clamped(floorf(u * (float)side), (float)(side - 1));
+  return at == at ? (size_t)at : 0;
 }
 
 /* ---- The comparison */
@@ -80,14 +100,20 @@ struct tally {
 COMPARE(float_of, bits_of(ieee_float_of(bits)), canonical(bits))
 COMPARE(bits_of, ieee_bits_of(x), canonical(bits))
 COMPARE(is_finite, ieee_is_finite(x), (bool)isfinite(x))
-COMPARE(clamp01, bits_of(ieee_clamp01(x)), bits_of(clamp01(x)))
+COMPARE(clamp01, bits_of(ieee_clamp01(x)), bits_of(clamped(x, 1.0f)))
 COMPARE(max0, bits_of(ieee_max0(x)), bits_of(x > 0.0f ? x : 0.0f))
 COMPARE(tiny, ieee_tiny(x), fabsf(x) <= FLT_EPSILON)
 COMPARE(floor_i32, ieee_floor_i32(x), saturated_i32(floorf(x)))
 COMPARE(ceil_i32, ieee_ceil_i32(x), saturated_i32(ceilf(x)))
 COMPARE(byte, ieee_byte(x), saturated_u8(x))
 COMPARE(unit_byte, ieee_unit_byte(x), saturated_u8(x * 255.0f + 0.5f))
+COMPARE(first, ieee_first(x), first(x))
+COMPARE(past, ieee_past(x), past(x))
 COMPARE(sqrt, bits_of(ieee_sqrt(x)), bits_of(sqrtf(x)))
+
+#define TEXEL(SIDE) COMPARE(texel##SIDE, ieee_texel(x, SIDE), texel(x, SIDE))
+TEXEL(1) TEXEL(2) TEXEL(3) TEXEL(7) TEXEL(8)
+TEXEL(255) TEXEL(256) TEXEL(1000) TEXEL(1023) TEXEL(1024)
 
 struct leaf {
   const char *name;
@@ -95,9 +121,13 @@ struct leaf {
 };
 
 #define LEAF(NAME) {#NAME, compare_##NAME}
-static const struct leaf LEAVES[] = {LEAF(float_of), LEAF(bits_of),   LEAF(is_finite), LEAF(clamp01),
-                                     LEAF(max0),     LEAF(tiny),      LEAF(floor_i32), LEAF(ceil_i32),
-                                     LEAF(byte),     LEAF(unit_byte), LEAF(sqrt)};
+static const struct leaf LEAVES[] = {
+    LEAF(float_of), LEAF(bits_of), LEAF(is_finite), LEAF(clamp01), LEAF(max0),
+    LEAF(tiny), LEAF(floor_i32), LEAF(ceil_i32), LEAF(byte), LEAF(unit_byte),
+    LEAF(first), LEAF(past), LEAF(sqrt),
+    LEAF(texel1), LEAF(texel2), LEAF(texel3), LEAF(texel7), LEAF(texel8),
+    LEAF(texel255), LEAF(texel256), LEAF(texel1000), LEAF(texel1023), LEAF(texel1024),
+};
 enum { COUNT = sizeof LEAVES / sizeof *LEAVES };
 
 struct share {
@@ -132,9 +162,12 @@ static struct tally whole(const struct leaf *leaf) {
   return t;
 }
 
-static int compare_all(void) {
-  bool wrong = false;
+/* All leaves, or the one with that name. */
+static int compare_all(const char *only) {
+  bool wrong = false, any = false;
   for (int i = 0; i < COUNT; i++) {
+    if (only && strcmp(only, LEAVES[i].name) != 0) continue;
+    any = true;
     struct tally t = whole(&LEAVES[i]);
     printf("%s %llu %llu ", LEAVES[i].name, (unsigned long long)t.seen, (unsigned long long)t.differ);
     if (t.differ > 0) printf("%08x\n", (unsigned)t.first);
@@ -142,7 +175,8 @@ static int compare_all(void) {
     fflush(stdout);
     wrong |= t.differ > 0;
   }
-  return wrong;
+  if (!any) fprintf(stderr, "exhaustive: no function %s\n", only);
+  return wrong || !any;
 }
 
 /* ---- The times
@@ -227,6 +261,9 @@ static int print_times(void) {
 }
 
 int main(int count, char **arguments) {
+  if (count == 1) return compare_all(NULL);
   if (count == 2 && strcmp(arguments[1], "--time") == 0) return print_times();
-  return compare_all();
+  if (count == 3 && strcmp(arguments[1], "--only") == 0) return compare_all(arguments[2]);
+  fprintf(stderr, "exhaustive: nothing, --only NAME or --time\n");
+  return 1;
 }

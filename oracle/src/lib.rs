@@ -2,6 +2,7 @@
 
 pub use vpu_original as original;
 
+pub mod bits;
 pub mod calls;
 pub mod cuts;
 pub mod damage;

@@ -9,7 +9,7 @@ impl Random {
 
     /// A generator of its own for each name, seed and index.
     pub fn named(name: &str, seed: u64, index: u64) -> Self {
-        let mut mixed = Self(crate::digests::fnv(name.bytes()) ^ Self(seed).next());
+        let mut mixed = Self(crate::bits::fnv(name.bytes()) ^ Self(seed).next());
         mixed.0 ^= Self(index).next();
         Self(mixed.next())
     }

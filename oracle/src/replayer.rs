@@ -4,6 +4,8 @@
 pub use vpu_original as original;
 
 #[allow(dead_code)]
+mod bits;
+#[allow(dead_code, unused_imports)]
 mod digests;
 #[allow(dead_code)]
 mod replay;

@@ -1,9 +1,12 @@
-// The leaves for C, so that a test can run them on any pattern: each export calls one leaf.
+// The leaves and the four operations for C, so that a test can run them on any pattern: each export calls one leaf or
+// has one operation.
 ghost use mathlib.Core.Path.{_≡_};
-ghost use lib.Ieee.{binary32, ofBits, toBits};
+ghost use Prim.Native.Nat.{_<_};
+ghost use lib.Ieee.{binary32, ofBits, toBits, add, sub, mul, div};
 ghost use lib.Ieee.Scale.{finite};
 ghost use Rattle.ieee.specs.Range.{clampOf, maxOf, tinyOf};
-ghost use Rattle.ieee.specs.Casts.{floorOf, ceilOf, byteOf, unitByteOf};
+ghost use Rattle.ieee.specs.Casts.{floorOf, ceilOf, byteOf, unitByteOf, texelOf};
+ghost use Rattle.ieee.specs.Box.{firstOf, pastOf};
 ghost use Rattle.ieee.specs.Root.{root};
 
 #[no_mangle]
@@ -77,8 +80,58 @@ pub extern "C" fn ieee_unit_byte(v: f32) -> u8
 }
 
 #[no_mangle]
+pub extern "C" fn ieee_first(x: f32) -> u32
+    ensures { λ r. ⌜ r ≡ firstOf x ⌝ }
+{
+    ieee::cast::first(x)
+}
+
+#[no_mangle]
+pub extern "C" fn ieee_past(x: f32) -> u32
+    ensures { λ r. ⌜ r ≡ pastOf x ⌝ }
+{
+    ieee::cast::past(x)
+}
+
+#[no_mangle]
+pub extern "C" fn ieee_texel(u: f32, side: u32) -> usize
+    requires { ⌜ 0 < side ⌝ }
+    ensures { λ r. ⌜ r ≡ texelOf u side ⌝ }
+{
+    ieee::cast::texel(u, side)
+}
+
+#[no_mangle]
 pub extern "C" fn ieee_sqrt(x: f32) -> f32
     ensures { λ r. ⌜ r ≡ root x ⌝ }
 {
     ieee::root::sqrt(x)
+}
+
+#[no_mangle]
+pub extern "C" fn ieee_add(x: f32, y: f32) -> f32
+    ensures { λ r. ⌜ r ≡ add binary32 x y ⌝ }
+{
+    x + y
+}
+
+#[no_mangle]
+pub extern "C" fn ieee_sub(x: f32, y: f32) -> f32
+    ensures { λ r. ⌜ r ≡ sub binary32 x y ⌝ }
+{
+    x - y
+}
+
+#[no_mangle]
+pub extern "C" fn ieee_mul(x: f32, y: f32) -> f32
+    ensures { λ r. ⌜ r ≡ mul binary32 x y ⌝ }
+{
+    x * y
+}
+
+#[no_mangle]
+pub extern "C" fn ieee_div(x: f32, y: f32) -> f32
+    ensures { λ r. ⌜ r ≡ div binary32 x y ⌝ }
+{
+    x / y
 }
