@@ -1,3 +1,4 @@
 pub mod Face
 pub mod Pixel
 pub mod Row
+pub mod Source

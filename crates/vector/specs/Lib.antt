@@ -1,3 +1,4 @@
 pub mod Three
+pub mod Sums
 pub mod Matrices
 pub mod Normals
