@@ -21,17 +21,7 @@ use Rattle.execute.specs.Commands.{Load, Told, told}
 use Rattle.execute.specs.Control.{Keep, Control, Step, Seen, verdictOf, keptOf, ended, execute}
 use Rattle.execute.proofs.Formed.{Passed, load-passed}
 use Rattle.vpu.specs.Framing.{dropped, begun, header, taken, gather, word, wordOn, run}
-
--- K and P answer alike on what `Rel` relates, and keep it related. `Passed`: what the checks of an upload's command leave
-pub record Alike {X Y : Type 0} (K : Keep X) (P : Keep Y) (Rel : X → Y → Type 0) : Type 0 where
-  pub look-same : (x : X) (y : Y) → Rel x y → K .look x ≡ P .look y
-  pub room-same : (x : X) (y : Y) (l : Load) → Rel x y → K .room x l ≡ P .room y l
-  pub put-kept : (x : X) (y : Y) (l : Load) → Rel x y → Passed (some l) → P .room y l ≡ Fits → Rel (K .put x l) (P .put y l)
-  pub payload-same : (x : X) (y : Y) → Rel x y → K .payload x ≡ P .payload y
-  pub add-kept : (w : ℕ) (x : X) (y : Y) → Rel x y → length (P .payload y) < mostPayload → Rel (K .add w x) (P .add w y)
-  pub add-length : (w : ℕ) (y : Y) → length (P .payload (P .add w y)) ≡ suc (length (P .payload y))
-  pub clear-kept : (x : X) (y : Y) → Rel x y → Rel (K .clear x) (P .clear y)
-  pub clear-length : (y : Y) → length (P .payload (P .clear y)) ≡ 0
+use Rattle.claims.specs.Alike.{Alike}
 
 -- two controls that are seen alike, with what a begun command has yet to come within the command area
 pub record Same {X Y : Type 0} (P : Keep Y) (Rel : X → Y → Type 0) (c : Control X) (d : Control Y) : Type 0 where
@@ -64,7 +54,7 @@ module _ {X Y : Type 0} {K : Keep X} {P : Keep Y} {Rel : X → Y → Type 0} (A 
   kept-same x y h (some l) q = rw (A .room-same x y l h) (go (P .room y l) refl)
     where
       go : (r : Room) → P .room y l ≡ r → Rel (cond (isFits r) (K .put x l) x) (cond (isFits r) (P .put y l) y)
-      go Fits e = A .put-kept x y l h q e
+      go Fits e = A .put-kept x y l h (record { sides = q .sides; size = q .size }) e
       go NoSlot e = h
       go NoWords e = h
 

@@ -3,7 +3,7 @@ use Prim.Native.Nat.{ℕ, _+_, _≤_}
 use mathlib.Core.Path.{_≡_, refl, ap}
 use mathlib.Core.Bool.{Bool, true, false, cond, not, _&&_, _||_}
 use mathlib.Core.Option.{Option, none, some}
-use mathlib.Core.List.{List, [], _∷_, _++_, map}
+use mathlib.Core.List.{List, [], _∷_, map}
 use native.Mathlib.Omega.{arith}
 use lib.Bits.{bitOr}
 use lib.Dec.{eqb, leb, ltb}
@@ -21,7 +21,7 @@ use Rattle.store.specs.declared.Kind.{Kind}
 use Rattle.store.specs.declared.Kind.the-variants.{Texture, Model}
 use Rattle.store.specs.declared.Room.{Room}
 use Rattle.store.specs.declared.Room.the-variants.{Fits, NoSlot, NoWords}
-use Rattle.store.specs.Uploads.{Whole, Card, cards, find, holds, live, total, room, isSome}
+use Rattle.store.specs.Uploads.{Whole, Card, find, holds, total, room, isSome}
 use Rattle.store.specs.Slots.{isFits}
 use Rattle.decide.specs.Verdicts.{checkedVerdict, texturedVerdict, triangleOf, recordsVerdict}
 use Rattle.draw.specs.Draws.{texturedStrokes, recordsStrokes}
@@ -33,27 +33,10 @@ use Rattle.execute.proofs.Told.{told-as, command-of-17, command-of-18, command-
 use Rattle.execute.proofs.Painted.{painted-whole}
 use Rattle.claims.proofs.Refused.{model-none, model-exact}
 use Rattle.claims.proofs.Reasons.{checked-so, told-so}
+use Rattle.claims.specs.Asked.{none-left, another, Finds, Draws, ruled, Lower}
 use Rattle.claims.specs.Plain.{Past, past, history, accepted, asPast}
 
 -- ---- "the last accepted upload of its kind under that number"
--- none of these has the number n
-pub data Apart (n : ℕ) : List Whole → Type 0 where
-  none-left : Apart n []
-  another : {u : Whole} {us : List Whole} → (u .number ≡ n → ⊥) → Apart n us → Apart n (u ∷ us)
-
--- u is the newest under n, in a history that has its newest first
-pub record Last (n : ℕ) (h : List Whole) (u : Whole) : Type 0 where
-  pub newer : List Whole
-  pub older : List Whole
-  pub is : h ≡ newer ++ (u ∷ older)
-  pub number : u .number ≡ n
-  pub apart : Apart n newer
-
--- what is found is that one, or there is none
-abbrev pub Finds : ℕ → List Whole → Option Whole → Type 0
-Finds n h none = Apart n h
-Finds n h (some u) = Last n h u
-
 pub finds : (n : ℕ) (h : List Whole) → Finds n h (find n h)
 finds n [] = none-left
 finds n (v ∷ h) = go (finds n h) (eqb (v .number) n) refl
@@ -85,14 +68,6 @@ pub checked-other : (p : List ℕ) (normal : Bool) (m : List Float) (i : ℕ) �
 checked-other p normal m = checked-so Other done-other (λ i. differs i (λ e. omega arith)) (λ i. differs i (λ e. omega arith)) (differs 0 (λ e. omega arith)) p normal m
 
 -- ---- 18 and 19, of right length and mode
--- found: what the history has under the number
-pub record Draws (found : Option Whole) (s : Settings) (p : List ℕ) (normal : Bool) (t : Told) : Type 0 where
-  -- "refused for want of one exactly if there is none"
-  pub wanting : found ≡ none → t .verdict ≡ Refused NotHeld 0
-  pub only : (i : ℕ) → t .verdict ≡ Refused NotHeld i → found ≡ none
-  -- "gets the last accepted upload"
-  pub gets : t .paints ≡ map paints.stroked (texturedStrokes s p normal found)
-
 textured-verdict : (p : List ℕ) (normal held : Bool) (m : List Float) → wordAt p 1 ≤ 2 → texturedVerdict p normal held m ≡ cond held (checkedVerdict p normal m) (Refused NotHeld 0)
 unfolding texturedVerdict
 textured-verdict p normal true m h = rw (le-leb (wordAt p 1) 2 h)
@@ -149,10 +124,6 @@ cleared : (h : Past) (k : Kind) → history (past (h .textures) (h .models) []) 
 cleared h Texture = refl
 cleared h Model = refl
 
--- "01's store rule over that history", of an upload
-abbrev pub ruled : (Kind → ℕ) → Past → Load → Room
-ruled size h l = room (size (l .kind)) (cards (live (history h (l .kind)))) (l .whole .number) (length (l .whole .words))
-
 -- one that passed its checks: bit 6, 64, exactly where the rule says "no room", and else it is the newest of the history
 pub upload-ruled : (size : Kind → ℕ) (c : Control Past) (l : Load) → told (asPast size .look (c .box)) (c .settings) (c .opcode) (c .box .payload) .load ≡ some l
     → (execute (asPast size) c .control .notes .status ≡ cond (isFits (ruled size (c .box) l)) (bitOr (c .notes .status) 0) (bitOr (c .notes .status) 64))
@@ -176,12 +147,6 @@ others-keep size c e k = rw e (cleared (c .box) k)
 -- no other command sets bit 6: where nothing is to be kept, what a command sets is bit 3 or nothing
 abbrev Low : Verdict → Type 0
 Low v = bitsOf v ≤ 8
-
--- the status after a verdict that is not of a full store
-pub record Lower (before after : ℕ) : Type 0 where
-  pub verdict : Verdict
-  pub low : bitsOf verdict ≤ 8
-  pub is : after ≡ bitOr before (bitsOf verdict)
 
 pub others-low : (size : Kind → ℕ) (c : Control Past) → told (asPast size .look (c .box)) (c .settings) (c .opcode) (c .box .payload) .load ≡ none
     → Lower (c .notes .status) (execute (asPast size) c .control .notes .status)

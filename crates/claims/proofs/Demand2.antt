@@ -39,7 +39,7 @@ use Rattle.vpu.proofs.Laws.{run-append}
 use Rattle.claims.specs.Plain.{Past, history, accepted, asPast, plainStart}
 use Rattle.claims.specs.Runs.{resetOn, Call, afterAll, AllAllowed, after, feeds, own, sizes, plainAfter, plainAll}
 use Rattle.claims.specs.Original.{Vpu, new, inserted, kept, arm, execute, marked, waiting, await, pump, push, pushes}
-use Rattle.claims.specs.Domain.{Near, Within, Fine, AllFine, InDomain, calls}
+use Rattle.claims.specs.Domain.{Near, Within, Fine, AllFine, InDomain, calls, singles}
 use Rattle.claims.proofs.Reasons.{told-so}
 use Rattle.claims.proofs.Demand3.{demand3, reset-again}
 
@@ -273,11 +273,6 @@ plain-calls : (size : Kind → ℕ) (wss : List (List ℕ)) (n : Seen Past) → 
 unfolding plainAll plainAfter run flatten
 plain-calls size [] n = refl
 plain-calls size (ws ∷ wss) n = plain-calls size wss (run (asPast size) n ws) ∙ sym (run-append (asPast size) n ws (flatten wss))
-
--- a call for each word
-abbrev pub singles : List ℕ → List (List ℕ)
-singles [] = []
-singles (w ∷ ws) = (w ∷ []) ∷ singles ws
 
 singles-flat : (ws : List ℕ) → flatten (singles ws) ≡ ws
 unfolding flatten

@@ -20,20 +20,7 @@ use Rattle.vpu.specs.Framing.{word, header, gather, run}
 use Rattle.vpu.specs.Calls.{Small}
 use Rattle.claims.specs.Plain.{asPast, plainStart}
 use Rattle.claims.specs.Original.{new, arm, execute, await, push, pushes}
-use Rattle.claims.specs.Domain.{AllFine, InDomain}
-
--- texture 7, of one texel; all cleared; and a triangle on (0,0), (x,0), (0,4)
-abbrev pub upload : List ℕ
-upload = 0x1700_0004 ∷ 7 ∷ 1 ∷ 1 ∷ 0xf0a5_1234 ∷ []
-
-abbrev pub clear : List ℕ
-clear = 0x0400_0003 ∷ 3 ∷ 0x8080_80ff ∷ 0 ∷ []
-
-abbrev pub triangle : ℕ → List ℕ
-triangle x = 0x1200_000b ∷ 0 ∷ 0 ∷ 10 ∷ x ∷ 0 ∷ 10 ∷ 0 ∷ 4 ∷ 10 ∷ 0xff_ffff ∷ 255 ∷ []
-
-abbrev pub stream : ℕ → List ℕ
-stream x = upload ++ (clear ++ triangle x)
+use Rattle.claims.specs.Domain.{AllFine, InDomain, clear, triangle, stream}
 
 -- ---- only there
 pub near-only : (size : Kind → ℕ) (x : ℕ) → InDomain size (stream x) → natAbs (toZ w32 x) ≤ 8192

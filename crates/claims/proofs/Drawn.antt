@@ -1,5 +1,5 @@
 -- A draw shows the last accepted upload, on the screen: two 1 × 1 textures under one number and a triangle over the lower left half. antt computes its corners, its set-up and one pixel. Assumes nothing.
-use Prim.Native.Nat.{ℕ, _+_, _*_, _/_, _%_, _≤_}
+use Prim.Native.Nat.{ℕ, _+_, _/_, _≤_}
 use mathlib.Core.Path.{_≡_, refl, _∙_}
 use mathlib.Core.Bool.{true, false}
 use mathlib.Core.Option.{some}
@@ -9,7 +9,6 @@ use borrow.Author.Tests.{le-ltb}
 use lib.Ieee.{nan, binary32, ofBits, ofInt, add, sub, mul, div, lt, le}
 use lib.ListN.{length, getD, length-replicate, getD-replicate}
 use Rattle.ieee.specs.Units.{wholes}
-use Rattle.ieee.specs.Number.{unitOf}
 use Rattle.laws.proofs.Cells.{getD-mapAt}
 use Rattle.screen.specs.Plane.{planeBytes, paint, shown}
 use Rattle.screen.specs.Draw.{pixels, byteStep}
@@ -44,19 +43,8 @@ use Rattle.execute.specs.Kept.{Machine}
 use Rattle.vpu.specs.Framing.{word, header, gather, run}
 use Rattle.claims.specs.Plain.{asPast, plainStart}
 use Rattle.claims.specs.Thirteen.{InStore}
-use Rattle.claims.specs.Idle.{upload}
+use Rattle.claims.specs.Idle.{upload, triangle, draw, alphaOf}
 use Rattle.claims.proofs.Table.{given, from, by-plain}
-
--- -1.0 and 1.0
-abbrev less : ℕ
-less = 0xbf80_0000
-
-abbrev more : ℕ
-more = 0x3f80_0000
-
--- 18, with the texture 1, mode 0: x, y, z, u, v and colour of (-1, -1, 0), (1, -1, 0), (-1, 1, 0)
-abbrev triangle : List ℕ
-triangle = 1 ∷ 0 ∷ less ∷ less ∷ 0 ∷ 0 ∷ 0 ∷ 0 ∷ more ∷ less ∷ 0 ∷ 0 ∷ 0 ∷ 0 ∷ less ∷ more ∷ 0 ∷ 0 ∷ 0 ∷ 0 ∷ []
 
 checked : checkedVerdict triangle false (settings.fresh .matrices) ≡ Done
 unfolding checkedVerdict texturedBy normalMatrixOf verdicts.plainOf plainVertex finite4 finiteFrom cornersOf cornersBy cornerOf viewOf projectedOf ofBits add mul
@@ -90,9 +78,6 @@ unfolding shows showsAt within covers insideOf weight0 weight1 weight2 depthAt p
 covered = refl
 
 -- ---- the alpha that it leaves there, of a 1 × 1 texture of the word w
-abbrev pub alphaOf : ℕ → ℕ
-alphaOf w = byteOf (unitOf (w / 65536 % 16 * 17))
-
 texel-one : (w : ℕ) (u v b : Corners) → texelOf (w ∷ []) (record { width = 1; height = 1; u = u; v = v }) b ≡ nibblesOf (w / 65536)
 unfolding texelOf halfOf
 texel-one w u v b = rw (place-one u v b)
@@ -109,9 +94,6 @@ stroke-alpha w p long far =
     (getD-mapAt _ (p .plane) 3 0 (omega arith) ∙ rw (far, covered) (alpha-ink w (getD (p .plane) 3 0)))
 
 -- ---- 17 under the number 1, and the draw
-abbrev pub draw : List ℕ
-draw = 0x1800_0014 ∷ triangle
-
 strokes-are : (w : ℕ) → texturedStrokes settings.fresh triangle false (some (wholeOf 1 1 1 (w ∷ []))) ≡ stroke tri (texturedBrush 1 1 0 tri) (w ∷ []) ∷ []
 unfolding texturedStrokes heldStrokes
 strokes-are w = rw checked

@@ -24,14 +24,15 @@ use Rattle.execute.specs.Commands.{Look, Load, rgbaOf}
 use Rattle.execute.specs.Control.{Keep}
 use Rattle.execute.specs.Kept.{Machine, machine}
 use Rattle.vpu.specs.Calls.{stateOf, Outcome, reset}
+use Rattle.claims.specs.Calls.{Right}
+use Rattle.claims.specs.Alike.{Alike}
 use Rattle.claims.specs.Plain.{Past, past, asPast}
 use Rattle.claims.specs.Runs.{feedOn}
 use Rattle.claims.specs.Thirteen.{clear, statusOf}
-use Rattle.claims.specs.Idle.{Feeder, Meets, NeverDone, NeverReset, NeverRead, OnePlane, NothingChanged, FirstKept, upload, FirstShown}
-use Rattle.claims.proofs.Alike.{Alike}
-use Rattle.claims.proofs.Calls.{Right, feed-answers, reset-answers, pixel-answers}
+use Rattle.claims.specs.Idle.{Feeder, Meets, NeverDone, NeverReset, NeverRead, OnePlane, NothingChanged, FirstKept, upload, draw, alphaOf, FirstShown}
+use Rattle.claims.proofs.Calls.{feed-answers, reset-answers, pixel-answers}
 use Rattle.claims.proofs.Table.{thirteen}
-use Rattle.claims.proofs.Drawn.{draw, alphaOf, shows-one, shows-last, alphas}
+use Rattle.claims.proofs.Drawn.{shows-one, shows-last, alphas}
 
 -- memory of right lengths there is
 somewhere : {Z : Type 0} → ((P : List ℕ) (D : List ℤ) (F : List Float) (C T M : List ℕ) → Right P D F C T M → 2 ≤ length T → Z) → Z

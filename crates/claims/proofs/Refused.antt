@@ -5,11 +5,9 @@ use mathlib.Core.Bool.{Bool, cond}
 use mathlib.Core.Option.{Option, none, some}
 use mathlib.Core.List.{List, [], _∷_, map}
 use native.Mathlib.Omega.{arith}
-use lib.Bits.{bitOr}
 use lib.Dec.{eqb, leb}
 use lib.ListN.{length}
 use borrow.Author.Tests.{le-leb, lt-leb}
-use Rattle.verdict.specs.Verdict.{numberOf, bitFor}
 use Rattle.verdict.specs.declared.Reason.{Reason}
 use Rattle.verdict.specs.declared.Reason.the-variants.{OutOfRange, NotHeld}
 use Rattle.verdict.specs.declared.Verdict.{Verdict}
@@ -42,7 +40,7 @@ use Rattle.execute.specs.Kept.{Box, box, asBox}
 use Rattle.execute.proofs.Told.{told-as, command-of-04, command-of-1b, clear-opcode, model-opcode}
 use Rattle.execute.proofs.Painted.{painted-whole, painted-short}
 use Rattle.laws.proofs.Bools.{either}
-use Rattle.claims.proofs.Status.{toldIn, verdictIn}
+use Rattle.claims.specs.Status.{toldIn, verdictIn, Left}
 
 -- refused, for whatever reason
 abbrev Refusal : Verdict → Type 0
@@ -122,14 +120,6 @@ module _ (s : Settings) (p : List ℕ) where
   told-quiet look op = rw (told-as look s op p refl) (as-quiet look (commandOf op))
 
 -- ---- every refused command, "no room" too
--- what a refused command leaves: settings and uploads as they were, no command begun, and the bit of its reason
-pub record Left {X : Type 0} (K : Keep X) (c : Control X) (r : Reason) : Type 0 where
-  pub settings : execute K c .control .settings ≡ c .settings
-  pub uploads : execute K c .control .box ≡ K .clear (c .box)
-  pub status : execute K c .control .notes .status ≡ bitOr (c .notes .status) (bitFor (numberOf r))
-  pub opcode : execute K c .control .opcode ≡ 0
-  pub wanted : execute K c .control .wanted ≡ 0
-
 module _ {X : Type 0} (K : Keep X) (c : Control X) (r : Reason) (i : ℕ) (e : verdictIn K c ≡ Refused r i) where
   record Parts (o : Option Load) : Type 0 where
     same : toldIn K c .settings ≡ c .settings

@@ -15,7 +15,7 @@ use Rattle.store.proofs.Kept.{Keeps, keeps-look, keeps-room, keeps-put}
 use Rattle.state.specs.State.{mostPayload}
 use Rattle.execute.specs.Kept.{Box, roomOn, shelfOf, putBox, asBox}
 use Rattle.claims.specs.Plain.{Past, history, accepted, asPast}
-use Rattle.claims.proofs.Alike.{Alike}
+use Rattle.claims.specs.Alike.{Alike}
 
 -- both stores hold what the history leaves, and the command area begins with the payload
 pub record Kept (size : Kind → ℕ) (b : Box) (h : Past) : Type 0 where
@@ -55,7 +55,7 @@ pub alike : (size : Kind → ℕ) → Alike asBox (asPast size) (Kept size)
 alike size = record {
   look-same = λ b h e. λ i k n. look-at e k n i;
   room-same = λ b h l e. room-at e (l .kind) (l .whole);
-  put-kept = λ b h l e s f. put-at e (l .kind) (l .whole) s f;
+  put-kept = λ b h l e s f. put-at e (l .kind) (l .whole) (record { sides = s .sides; size = s .size }) f;
   payload-same = λ b h e. e .payload;
   add-kept = λ w b h e l. add-at e w l;
   add-length = λ w h. length-append (h .payload) (w ∷ []) ∙ add-one (length (h .payload));

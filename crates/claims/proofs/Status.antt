@@ -17,11 +17,11 @@ use Rattle.verdict.specs.declared.Verdict.{Verdict}
 use Rattle.verdict.specs.declared.Verdict.the-variants.{Done, Refused}
 use Rattle.state.specs.declared.State.{State}
 use Rattle.state.specs.State.{mostPayload, wellFormed}
-use Rattle.execute.specs.Commands.{Told, told}
-use Rattle.execute.specs.Control.{Keep, Control, Step, Seen, verdictOf, execute}
+use Rattle.execute.specs.Control.{Keep, Control, Step, Seen, execute}
 use Rattle.execute.specs.Kept.{machine, asBox}
 use Rattle.vpu.specs.Framing.{begun, dropped, header, taken, gather, still, word, wordOn, run}
 use Rattle.vpu.specs.Calls.{Outcome, lengthsOk, feed}
+use Rattle.claims.specs.Status.{Stays, verdictIn}
 
 -- ---- a status after another: what a verdict sets is all that changes
 pub record Sets (before after : ℕ) : Type 0 where
@@ -36,16 +36,9 @@ either s true x y p q = p
 either s false x y p q = q
 
 module _ {X : Type 0} (K : Keep X) where
-  -- what the command whose payload is complete tells, and its verdict, room asked
-  abbrev pub toldIn : Control X → Told
-  toldIn c = told (K .look (c .box)) (c .settings) (c .opcode) (K .payload (c .box))
-
-  abbrev pub verdictIn : Control X → Verdict
-  verdictIn c = verdictOf K (c .box) (toldIn c) (toldIn c .load)
-
   execute-sets : (c : Control X) → Sets (c .notes .status) (execute K c .control .notes .status)
   unfolding execute
-  execute-sets c = record { verdict = verdictIn c; is = refl }
+  execute-sets c = record { verdict = verdictIn K c; is = refl }
 
   pub word-sets : (c : Control X) (w : ℕ) → Sets (c .notes .status) (word K c w .control .notes .status)
   unfolding word header gather
@@ -93,11 +86,6 @@ module _ (k : ℕ) (a : k ≡ 2 → ⊥) (b : k ≡ 3 → ⊥) (c : k ≡ 6 → 
   verdict-bit (Refused NotInvertible i) = three k b
   verdict-bit (Refused NoSlot i) = six k c
   verdict-bit (Refused NoWords i) = six k c
-
--- "No command clears them", and "all other bits as given"
-pub record Stays (before after : ℕ) : Type 0 where
-  pub kept : (k : ℕ) → bit k before ≡ 1 → bit k after ≡ 1
-  pub others : (k : ℕ) → (k ≡ 2 → ⊥) → (k ≡ 3 → ⊥) → (k ≡ 6 → ⊥) → bit k after ≡ bit k before
 
 sets-stays : {s t : ℕ} → Sets s t → Stays s t
 sets-stays {s} {t} e = record {

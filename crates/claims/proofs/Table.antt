@@ -43,8 +43,7 @@ use Rattle.execute.specs.Commands.{told, commandOf, textureVerdict, paintedBy, 
 use Rattle.execute.specs.Control.{Seen, execute}
 use Rattle.execute.specs.Kept.{Shelf, box, Machine, asBox}
 use Rattle.vpu.specs.Framing.{word, header, gather, run}
-use Rattle.vpu.specs.Calls.{stateOf, reset}
-use Rattle.vpu.proofs.Laws.{Lengths}
+use Rattle.vpu.specs.Calls.{stateOf, Lengths, reset}
 use Rattle.claims.specs.Plain.{Past, asPast, plainFresh, plainStart}
 use Rattle.claims.specs.Runs.{feedOn, afterAll, AllAllowed}
 use Rattle.claims.specs.Thirteen as table

@@ -2,7 +2,7 @@
 use Prim.Native.Nat.{ℕ, _≤_}
 use mathlib.Core.Path.{_≡_}
 use mathlib.Core.Option.{some}
-use mathlib.Core.List.{List, [], _∷_, map}
+use mathlib.Core.List.{List, [], _∷_, _++_, map}
 use lib.IntN.{natAbs}
 use lib.ListN.{length}
 use Rattle.store.specs.declared.Kind.{Kind}
@@ -42,3 +42,24 @@ InDomain size ws = Small ws × AllFine size plainStart ws
 -- "accepted calls": each feeds the run's own state and buffers
 abbrev pub calls : List (List ℕ) → List Call
 calls wss = map (feeds own) wss
+
+-- a call for each word
+abbrev pub singles : List ℕ → List (List ℕ)
+singles [] = []
+singles (w ∷ ws) = (w ∷ []) ∷ singles ws
+
+-- ---- a stream that is in it for some x, and for some stores: `proofs/Domain.antt`
+-- texture 7, of one texel
+abbrev pub upload : List ℕ
+upload = 0x1700_0004 ∷ 7 ∷ 1 ∷ 1 ∷ 0xf0a5_1234 ∷ []
+
+-- all cleared
+abbrev pub clear : List ℕ
+clear = 0x0400_0003 ∷ 3 ∷ 0x8080_80ff ∷ 0 ∷ []
+
+-- a flat triangle on (0,0), (x,0), (0,4)
+abbrev pub triangle : ℕ → List ℕ
+triangle x = 0x1200_000b ∷ 0 ∷ 0 ∷ 10 ∷ x ∷ 0 ∷ 10 ∷ 0 ∷ 4 ∷ 10 ∷ 0xff_ffff ∷ 255 ∷ []
+
+abbrev pub stream : ℕ → List ℕ
+stream x = upload ++ (clear ++ triangle x)

@@ -1,11 +1,13 @@
 -- Document 01, "What the contracts have to say": the four idle versions, each as a way that any function may behave. `proofs/Idle.antt` shows that none meets its contract. Definitions only.
-use Prim.Native.Nat.{ℕ}
+use Prim.Native.Nat.{ℕ, _*_, _/_, _%_}
 use mathlib.Core.Path.{_≡_}
 use mathlib.Core.Option.{none, some}
 use mathlib.Core.List.{List, [], _∷_, _++_}
 use lib.IntN.{ℤ}
 use lib.Ieee.{Float}
+use Rattle.ieee.specs.Number.{unitOf}
 use Rattle.screen.specs.Plane.{Answered}
+use Rattle.raster.specs.Ink.{byteOf}
 use Rattle.state.specs.declared.State.{State}
 use Rattle.execute.specs.Commands.{Load}
 use Rattle.execute.specs.Control.{Keep}
@@ -49,6 +51,24 @@ FirstKept {X} K =
 -- and of a feeder: whatever follows two 1 × 1 textures under one number, the plane is what it is after the first alone
 abbrev pub upload : ℕ → ℕ → List ℕ
 upload n w = 0x1700_0004 ∷ n ∷ 1 ∷ 1 ∷ w ∷ []
+
+-- and what follows. -1.0 and 1.0
+abbrev pub less : ℕ
+less = 0xbf80_0000
+
+abbrev pub more : ℕ
+more = 0x3f80_0000
+
+-- the words of an 18 with the texture 1, mode 0: x, y, z, u, v and colour of (-1, -1, 0), (1, -1, 0), (-1, 1, 0)
+abbrev pub triangle : List ℕ
+triangle = 1 ∷ 0 ∷ less ∷ less ∷ 0 ∷ 0 ∷ 0 ∷ 0 ∷ more ∷ less ∷ 0 ∷ 0 ∷ 0 ∷ 0 ∷ less ∷ more ∷ 0 ∷ 0 ∷ 0 ∷ 0 ∷ []
+
+abbrev pub draw : List ℕ
+draw = 0x1800_0014 ∷ triangle
+
+-- the alpha byte that it leaves of a 1 × 1 texture of the word w: that of the texel, through a float
+abbrev pub alphaOf : ℕ → ℕ
+alphaOf w = byteOf (unitOf (w / 65536 % 16 * 17))
 
 abbrev pub FirstShown : Feeder → Type 0
 FirstShown f =

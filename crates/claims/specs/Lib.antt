@@ -1,5 +1,9 @@
+pub mod Calls
 pub mod Plain
 pub mod Runs
+pub mod Alike
+pub mod Asked
+pub mod Status
 pub mod Original
 pub mod Domain
 pub mod Thirteen

@@ -13,7 +13,6 @@ use lib.ListN.{length, take, drop, getD, length-drop}
 use lib.Seq.{drop-cons, drop-length, getD-drop, take-take, length-take-le, paste, paste-zero, paste-suc}
 use Rattle.screen.specs.Plane.{planeBytes}
 use Rattle.screen.specs.Draw.{pixels}
-use Rattle.store.specs.Uploads.{mostWords}
 use Rattle.store.specs.declared.Kind.the-variants.{Texture, Model}
 use Rattle.settings.specs.Settings.{settingsOk}
 use Rattle.verdict.specs.declared.Verdict.{Verdict}
@@ -32,7 +31,7 @@ use Rattle.framing.specs.declared.Frame.{Frame}
 use Rattle.vpu.specs.Framing.{word, header, gather, wordOn, run}
 use Rattle.framing.specs.Frames.{frame, frameOf, withFrame, droppedFrame, endedFrame, wordFrame, wordArea, readyOf, betweenOf, gatheredFrame}
 use Rattle.vpu.specs.Sound.{Sound}
-use Rattle.vpu.specs.Calls.{stateOf, outcome, lengthsOk, feed, cleared, reset}
+use Rattle.vpu.specs.Calls.{stateOf, outcome, Lengths, lengthsOk, feed, cleared, reset}
 use Rattle.framing.proofs.Words.{Case, zero-opcode, too-many, at-once, begins, last, more, case-of, idle, gathering, begun-fits, word-fits, word-begun, word-payload, area-header, area-payload, area-length, ready-idle, ready-whole, ready-wanting, between-fits, case-zero, case-many, case-begun}
 
 -- machines that agree, part by part
@@ -326,14 +325,6 @@ module _ {ws : List ℕ} {m₀ : Machine} {s : State} {f : Frame} {P : List ℕ}
         rw (x, y, r, run-length, same, take-take n n (drop k ws) (le-refl n)) (gathers n (between-fits f (length ws - k) n is .before-last) all-there)
 
 -- ---- the lent lengths
-pub record Lengths (p d f c t m : ℕ) : Type 0 where
-  pub of-plane : p ≡ planeBytes
-  pub of-depth : d ≡ pixels
-  pub of-floats : f ≡ pixels
-  pub of-command : c ≡ mostPayload
-  pub of-textures : t ≤ mostWords
-  pub of-models : m ≤ mostWords
-
 pub lengths : (p d f c t m : ℕ) → lengthsOk p d f c t m ≡ true → Lengths p d f c t m
 unfolding lengthsOk
 lengths p d f c t m e =

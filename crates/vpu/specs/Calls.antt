@@ -1,5 +1,6 @@
 -- The public calls: what each answers, and the state and every lent element afterwards. Document 01, "Lent memory and call answers". Definitions only.
-use Prim.Native.Nat.{ℕ, _<_}
+use Prim.Native.Nat.{ℕ, _≤_, _<_}
+use mathlib.Core.Path.{_≡_}
 use mathlib.Core.Bool.{Bool, cond, _&&_}
 use mathlib.Core.List.{List, [], _∷_}
 use lib.Dec.{eqb, leb}
@@ -49,6 +50,15 @@ abbrev pub outcome : ℕ → Machine → Outcome
 outcome n m = record { answer = n; machine = m }
 
 -- "plane 307,200 bytes; integer depth and float depth 76,800 numbers each; command area 524,291 words; a texture store and a model store, each 0 to 16,777,216 words"
+pub record Lengths (p d f c t m : ℕ) : Type 0 where
+  pub of-plane : p ≡ planeBytes
+  pub of-depth : d ≡ pixels
+  pub of-floats : f ≡ pixels
+  pub of-command : c ≡ mostPayload
+  pub of-textures : t ≤ mostWords
+  pub of-models : m ≤ mostWords
+
+-- the same, as a test
 unfoldable pub lengthsOk : ℕ → ℕ → ℕ → ℕ → ℕ → ℕ → Bool
 lengthsOk p d f c t m =
     eqb p planeBytes && (eqb d pixels && (eqb f pixels && (eqb c mostPayload && (leb t mostWords && leb m mostWords))))
