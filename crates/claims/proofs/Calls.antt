@@ -32,7 +32,7 @@ true-false : {b : Bool} → b ≡ true → b ≡ false → ⊥
 true-false p q = let z : _≡_ {A = ℕ} 0 1 = cc in omega arith
 
 module _ (P : List ℕ) (D : List ℤ) (F : List Float) (C T M : List ℕ) where
-  right-measured : Right P D F C T M → lengthsOk (length P) (length D) (length F) (length C) (length T) (length M) ≡ true
+  pub right-measured : Right P D F C T M → lengthsOk (length P) (length D) (length F) (length C) (length T) (length M) ≡ true
   unfolding lengthsOk
   right-measured h = rw (h .of-plane, h .of-depth, h .of-floats, h .of-command, le-leb (length T) mostWords (h .of-textures), le-leb (length M) mostWords (h .of-models))
 

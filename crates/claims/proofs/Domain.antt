@@ -43,11 +43,11 @@ unfolding AllFine word header gather control.execute told commandOf textureVerdi
 room-only size x d = fits-one (size Texture) (d .1 .1 .1 .1 .1 .0 refl .fits one refl)
 
 -- ---- and there
-abbrev below : List ℕ → Bool
+abbrev pub below : List ℕ → Bool
 below [] = true
 below (w ∷ ws) = cond (ltb w 4294967296) (below ws) false
 
-small-of : (ws : List ℕ) → below ws ≡ true → Small ws
+pub small-of : (ws : List ℕ) → below ws ≡ true → Small ws
 small-of [] e = tt
 small-of (w ∷ ws) e = go (ltb w 4294967296) refl e (λ k. small-of ws k)
   where

@@ -15,22 +15,26 @@ use Rattle.screen.specs.Draw.{pixels}
 use Rattle.screen.specs.Depths.{farInts, farFloats}
 use Rattle.screen.proofs.Cases.{filled-pixel}
 use Rattle.store.specs.declared.Kind.{Kind}
-use Rattle.store.specs.declared.Kind.the-variants.{Texture}
-use Rattle.store.specs.Uploads.{Whole}
+use Rattle.store.specs.declared.Kind.the-variants.{Texture, Model}
+use Rattle.store.specs.Uploads.{Whole, find}
 use Rattle.store.specs.Slots.{wholeOf}
 use Rattle.state.specs.State.{mostPayload, fresh}
 use Rattle.state.proofs.Formed.{fresh-formed}
-use Rattle.execute.specs.Commands.{Look, Load, rgbaOf}
-use Rattle.execute.specs.Control.{Keep}
-use Rattle.execute.specs.Kept.{Machine, machine}
+use Rattle.execute.specs.Commands.{Look, Load, textureIn, rgbaOf, told, commandOf, textureVerdict}
+use Rattle.execute.specs.Control.{Keep, execute}
+use Rattle.execute.specs.Kept.{Machine, machine, asBox}
+use Rattle.vpu.specs.Framing.{word, header, gather, run}
 use Rattle.vpu.specs.Calls.{stateOf, Outcome, reset}
 use Rattle.claims.specs.Calls.{Right}
 use Rattle.claims.specs.Alike.{Alike}
-use Rattle.claims.specs.Plain.{Past, past, asPast}
-use Rattle.claims.specs.Runs.{feedOn}
+use Rattle.claims.specs.Plain.{Past, past, history, asPast, plainStart}
+use Rattle.claims.specs.Runs.{feedOn, afterAll, AllAllowed, sizes}
 use Rattle.claims.specs.Thirteen.{clear, statusOf}
-use Rattle.claims.specs.Idle.{Feeder, Meets, NeverDone, NeverReset, NeverRead, OnePlane, NothingChanged, FirstKept, upload, draw, alphaOf, FirstShown}
+use Rattle.claims.specs.Idle.{Feeder, Meets, NeverDone, NeverReset, NeverRead, OnePlane, NothingChanged, Blank, Twice, wordsOn, FirstKept, fedBy, upload, HasRoom, TwiceFed, FirstShown, draw, alphaOf}
+use Rattle.claims.proofs.Slots.{Kept, alike}
 use Rattle.claims.proofs.Calls.{feed-answers, reset-answers, pixel-answers}
+use Rattle.claims.proofs.Demand3.{fed-done, words-shown}
+use Rattle.claims.proofs.Domain.{small-of}
 use Rattle.claims.proofs.Table.{thirteen}
 use Rattle.claims.proofs.Drawn.{shows-one, shows-last, alphas}
 
@@ -47,6 +51,11 @@ somewhere h =
       of-models = omega arith;
     })
     (omega arith)
+
+-- nothing is held at first
+nothing-held : (k : Kind) (i : ℕ) → find i (history (past [] [] []) k) ≡ none
+nothing-held Texture i = refl
+nothing-held Model i = refl
 
 module _ (f : Feeder) (meets : Meets f) where
   -- on it the fresh state is fed
@@ -107,26 +116,53 @@ module _ (f : Feeder) (meets : Meets f) where
   nothing-changed h = somewhere (λ P D F C T M right two. some-change P D F C T M right h)
 
   -- ---- "Storing the first upload and pretending for later ones: demand 3, stated over demand 2's commands, since a draw must show the last accepted upload"
-  module _ (P : List ℕ) (D : List ℤ) (F : List Float) (C T M : List ℕ) (right : Right P D F C T M) (two : 2 ≤ length T) where
+  module _ (P : List ℕ) (D : List ℤ) (F : List Float) (C T M : List ℕ) (done : reset P D F C T M .answer ≡ 0) (two : 2 ≤ length T) where
     abbrev n : Machine
     n = reset P D F C T M .machine
 
-    drawn : (ws : List ℕ) → f (stateOf n) ws (n .picture .plane) (n .picture .depth) (n .picture .depthF) (n .control .box .area) (n .control .box .textures .words) (n .control .box .models .words) ≡ feedOn n ws
-    drawn ws = meets (stateOf n) ws _ _ _ _ _ _
+    abbrev size : Kind → ℕ
+    size = sizes T M
+
+    -- words that f is fed leave what they leave beside the plain machine
+    by-f : (ws : List ℕ) → fedBy f n ws ≡ run asBox n ws
+    unfolding afterAll AllAllowed
+    by-f ws =
+        ap (λ (o : Outcome). o .machine) (meets (stateOf n) ws _ _ _ _ _ _)
+        ∙ feed-answers _ _ _ _ _ _ (stateOf n) ws .done (fed-done P D F C T M done [] tt ws)
+
+    kept : (ws : List ℕ) → Kept size (fedBy f n ws .control .box) (run (asPast size) plainStart ws .control .box)
+    kept ws = rw (by-f ws) (words-shown P D F C T M done size refl refl ws .control .box)
+
+    blank : Blank asBox (fedBy f n [] .control)
+    unfolding run
+    blank = record {
+      header-next = ap (λ (m : Machine). m .control .wanted) (by-f []) ∙ words-shown P D F C T M done size refl refl [] .control .wanted;
+      none-held = λ k i. ap (λ (l : Look). l k i) (alike size .look-same _ _ (kept [])) ∙ nothing-held k i;
+    }
+
+    -- and there is room for two words
+    room-one : (w : ℕ) → HasRoom (fedBy f n []) 1 w
+    unfolding run
+    room-one w = alike size .room-same _ _ (textureIn (1 ∷ 1 ∷ 1 ∷ w ∷ [])) (kept []) ∙ rw (le-ltb (length T) 1 (omega arith))
+
+    room-two : (a w : ℕ) → HasRoom (fedBy f n (upload 1 a)) 1 w
+    unfolding run word header gather execute told commandOf textureVerdict
+    room-two a w = alike size .room-same _ _ (textureIn (1 ∷ 1 ∷ 1 ∷ w ∷ [])) (kept (upload 1 a)) ∙ rw (le-ltb (length T) 1 (omega arith), le-ltb (length T) 2 two)
 
     last-shown : FirstShown f → ⊥
     last-shown h =
-        let done : reset P D F C T M .answer ≡ 0 = reset-answers P D F C T M .zero-if right in
         let a : ℕ = 0x000f_0000 in
         let b : ℕ = 0x0005_0000 in
-        let same : feedOn n (upload 1 a ++ (upload 1 b ++ draw)) .machine .picture .plane ≡ feedOn n (upload 1 a ++ draw) .machine .picture .plane =
-        ap (λ (o : Outcome). o .machine .picture .plane) (sym (drawn (upload 1 a ++ (upload 1 b ++ draw)))) ∙ h 1 a b draw (stateOf n) _ _ _ _ _ _
-        ∙ ap (λ (o : Outcome). o .machine .picture .plane) (drawn (upload 1 a ++ draw)) in
-        let z : alphaOf b ≡ alphaOf a = sym (shows-last a b .holds P D F C T M done two .1) ∙ ap (λ (l : List ℕ). getD l 3 0) same ∙ shows-one a .holds P D F C T M done two .1 in
+        let ready : TwiceFed f n [] 1 a b = record { words = (omega arith, (omega arith, (omega arith, tt))); blank = blank; room-first = room-one a; room-second = room-two a b } in
+        let same : fedBy f n (upload 1 a ++ (upload 1 b ++ draw)) .picture .plane ≡ fedBy f n (upload 1 a ++ draw) .picture .plane = h P D F C T M done [] draw 1 a b ready (small-of draw refl) in
+        let shown : (ws : List ℕ) → fedBy f n ws ≡ feedOn n ws .machine = λ ws. ap (λ (o : Outcome). o .machine) (meets (stateOf n) ws _ _ _ _ _ _) in
+        let z : alphaOf b ≡ alphaOf a =
+        sym (shows-last a b .holds P D F C T M done two .1) ∙ ap (λ (m : Machine). getD (m .picture .plane) 3 0) (sym (shown (upload 1 a ++ (upload 1 b ++ draw))))
+        ∙ ap (λ (l : List ℕ). getD l 3 0) same ∙ ap (λ (m : Machine). getD (m .picture .plane) 3 0) (shown (upload 1 a ++ draw)) ∙ shows-one a .holds P D F C T M done two .1 in
         omega (arith, alphas .0, alphas .1)
 
   pub first-shown : FirstShown f → ⊥
-  first-shown h = somewhere (λ P D F C T M right two. last-shown P D F C T M right two h)
+  first-shown h = somewhere (λ P D F C T M right two. last-shown P D F C T M (reset-answers P D F C T M .zero-if right) two h)
 
 -- ---- of the other two calls that always answer 1
 pub never-reset : (f : List ℕ → List ℤ → List Float → List ℕ → List ℕ → List ℕ → Outcome)
@@ -149,13 +185,31 @@ wordIn (some u) = getD (u .words) 0 0
 
 -- a way of keeping that answers alike the whole history, with room for two words
 module _ {X : Type 0} (K : Keep X) (size : Kind → ℕ) (Rel : X → Past → Type 0) (alike : Alike K (asPast size) Rel) (x : X) (start : Rel x (past [] [] [])) (space : 2 ≤ size Texture) where
-  pub first-kept : FirstKept K → ⊥
+  one-kept : Rel (K .put x (sent 7)) (past (sent 7 .whole ∷ []) [] [])
+  one-kept = alike .put-kept x (past [] [] []) (sent 7) start (record { sides = refl; size = refl }) (rw (le-ltb (size Texture) 1 (omega arith)))
+
+  two-kept : Rel (K .put (K .put x (sent 7)) (sent 8)) (past (sent 8 .whole ∷ sent 7 .whole ∷ []) [] [])
+  two-kept = alike .put-kept (K .put x (sent 7)) (past (sent 7 .whole ∷ []) [] []) (sent 8) one-kept (record { sides = refl; size = refl }) (rw (le-ltb (size Texture) 2 space))
+
+  no-words : Blank K (wordsOn K x [])
+  unfolding run
+  no-words = record { header-next = refl; none-held = λ k i. ap (λ (l : Look). l k i) (alike .look-same x (past [] [] []) start) ∙ nothing-held k i }
+
+  two-sent : Twice K (wordsOn K x [] .box) (sent 7) (sent 8)
+  unfolding run
+  two-sent = record {
+    kind = refl;
+    number = refl;
+    passing-first = record { sides = refl; size = refl };
+    passing-second = record { sides = refl; size = refl };
+    room-first = alike .room-same x (past [] [] []) (sent 7) start ∙ rw (le-ltb (size Texture) 1 (omega arith));
+    room-second = alike .room-same _ _ (sent 8) one-kept ∙ rw (le-ltb (size Texture) 2 space);
+  }
+
+  pub first-kept : FirstKept K x → ⊥
+  unfolding run
   first-kept h =
-      let one : Rel (K .put x (sent 7)) (past (sent 7 .whole ∷ []) [] []) = alike .put-kept x (past [] [] []) (sent 7) start (record { sides = refl; size = refl }) (rw (le-ltb (size Texture) 1 (omega arith))) in
-      let two : Rel (K .put (K .put x (sent 7)) (sent 8)) (past (sent 8 .whole ∷ sent 7 .whole ∷ []) [] []) =
-      alike .put-kept (K .put x (sent 7)) (past (sent 7 .whole ∷ []) [] []) (sent 8) one (record { sides = refl; size = refl }) (rw (le-ltb (size Texture) 2 space)) in
-      let free : K .look x Texture 1 ≡ none = ap (λ (l : Look). l Texture 1) (alike .look-same x (past [] [] []) start) in
-      let last : K .look (K .put (K .put x (sent 7)) (sent 8)) Texture 1 ≡ some (sent 8 .whole) = ap (λ (l : Look). l Texture 1) (alike .look-same _ _ two) in
-      let same : some (sent 7 .whole) ≡ some (sent 8 .whole) = sym (h x (sent 7) (sent 8) refl refl free) ∙ last in
+      let last : K .look (K .put (K .put x (sent 7)) (sent 8)) Texture 1 ≡ some (sent 8 .whole) = ap (λ (l : Look). l Texture 1) (alike .look-same _ _ two-kept) in
+      let same : some (sent 7 .whole) ≡ some (sent 8 .whole) = sym (h [] tt no-words (sent 7) (sent 8) two-sent) ∙ last in
       let z : _≡_ {A = ℕ} 7 8 = ap wordIn same in
       omega arith

@@ -12,3 +12,4 @@ pub mod Calls
 pub mod Table
 pub mod Drawn
 pub mod Idle
+pub mod Pretended
