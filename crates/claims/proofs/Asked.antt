@@ -23,7 +23,7 @@ use Rattle.store.specs.declared.Room.{Room}
 use Rattle.store.specs.declared.Room.the-variants.{Fits, NoSlot, NoWords}
 use Rattle.store.specs.Uploads.{Whole, Card, find, holds, total, room, isSome}
 use Rattle.store.specs.Slots.{isFits}
-use Rattle.decide.specs.Verdicts.{checkedVerdict, texturedVerdict, triangleOf, recordsVerdict}
+use Rattle.decide.specs.Verdicts.{checkedVerdict, texturedVerdict, recordsVerdict}
 use Rattle.draw.specs.Draws.{texturedStrokes, recordsStrokes}
 use Rattle.execute.specs.Paints as paints
 use Rattle.execute.specs.declared.command.Draw.the-variants as draw
@@ -74,7 +74,7 @@ textured-verdict p normal true m h = rw (le-leb (wordAt p 1) 2 h)
 textured-verdict p normal false m h = rw (le-leb (wordAt p 1) 2 h)
 
 -- a textured triangle, by what is found under its number
-abbrev pub triangle : Settings → List ℕ → Bool → Option Whole → Told
+abbrev triangle : Settings → List ℕ → Bool → Option Whole → Told
 triangle s p normal o = tells (texturedVerdict p normal (isSome o) (s .matrices)) s (map paints.stroked (texturedStrokes s p normal o))
 
 found-draws : (s : Settings) (p : List ℕ) → wordAt p 1 ≤ 2 → (normal : Bool) (o : Option Whole) → Draws o s p normal (triangle s p normal o)
@@ -84,11 +84,6 @@ found-draws s p mode normal (some u) = record {
   only = λ i e. absurd (checked-other p normal (s .matrices) i (rw (textured-verdict p normal true (s .matrices) mode) at e));
   gets = refl;
 }
-
--- ---- each record of a model draw: its verdict and its strokes are a step of `recordsVerdict` and of `recordsStrokes`
-pub draw-record : (h : Past) (s : Settings) (mode : ℕ) (words : List ℕ) → mode ≤ 2
-    → Draws (find (wordAt words 0) (h .textures)) s (triangleOf mode words) true (triangle s (triangleOf mode words) true (find (wordAt words 0) (h .textures)))
-draw-record h s mode words m = found-draws s (triangleOf mode words) m true (find (wordAt words 0) (h .textures))
 
 module _ (size : Kind → ℕ) (h : Past) (s : Settings) (p : List ℕ) (mode : wordAt p 1 ≤ 2) where
   textured-draws : (normal : Bool) → Draws (find (wordAt p 0) (h .textures)) s p normal (toldBy s (texturedPainted (asPast size .look h) s normal p))

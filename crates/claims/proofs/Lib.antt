@@ -4,6 +4,7 @@ pub mod Lengths
 pub mod Demand3
 pub mod Reasons
 pub mod Asked
+pub mod Records
 pub mod Demand2
 pub mod Domain
 pub mod Status

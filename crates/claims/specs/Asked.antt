@@ -1,22 +1,24 @@
 -- Demand 3, "a draw gets the last accepted upload of its kind under that number, and is refused for want of one exactly if there is none", and "no room" by the store rule: what these say of a history. Definitions only.
-use Prim.Native.Nat.{ℕ, _≤_}
+use Prim.Native.Nat.{ℕ, zero, suc, _*_, _≤_, _<_}
 use mathlib.Core.Path.{_≡_}
 use mathlib.Core.Bool.{Bool}
 use mathlib.Core.Option.{Option, none, some}
 use mathlib.Core.List.{List, [], _∷_, _++_, map}
 use lib.Bits.{bitOr}
-use lib.ListN.{length}
+use lib.ListN.{length, drop}
 use Rattle.verdict.specs.Verdict.{bitsOf}
 use Rattle.verdict.specs.declared.Reason.the-variants.{NotHeld}
 use Rattle.verdict.specs.declared.Verdict.{Verdict}
-use Rattle.verdict.specs.declared.Verdict.the-variants.{Refused}
+use Rattle.verdict.specs.declared.Verdict.the-variants.{Done, Refused}
+use Rattle.payload.specs.Words.{andThen, wordAt}
 use Rattle.settings.specs.declared.Settings.{Settings}
 use Rattle.store.specs.declared.Kind.{Kind}
 use Rattle.store.specs.declared.Room.{Room}
 use Rattle.store.specs.Uploads.{Whole, cards, live, room}
+use Rattle.decide.specs.Verdicts.{triangleOf}
 use Rattle.draw.specs.Draws.{texturedStrokes}
-use Rattle.execute.specs.Paints.{stroked}
-use Rattle.execute.specs.Commands.{Load, Told}
+use Rattle.execute.specs.Paints.{Paint, stroked}
+use Rattle.execute.specs.Commands.{Look, Load, Told, tells, told}
 use Rattle.claims.specs.Plain.{Past, history}
 
 -- ---- "the last accepted upload of its kind under that number"
@@ -45,6 +47,29 @@ pub record Draws (found : Option Whole) (s : Settings) (p : List ℕ) (normal : 
   pub only : (i : ℕ) → t .verdict ≡ Refused NotHeld i → found ≡ none
   -- "gets the last accepted upload"
   pub gets : t .paints ≡ map stroked (texturedStrokes s p normal found)
+
+-- ---- 1B: a model is drawn as so many 19s
+-- record i of a model's words, with the draw's mode: "each record of 28 words becomes a 29-word triangle"
+abbrev pub recordAt : ℕ → List ℕ → ℕ → List ℕ
+recordAt mode words i = triangleOf mode (drop (28 * i) words)
+
+-- what n of them tell, from the one under i on: the first refusal, and all that they paint
+abbrev pub firstRefused : (ℕ → Told) → ℕ → ℕ → Verdict
+firstRefused tell i zero = Done
+firstRefused tell i (suc n) = andThen (tell i .verdict) (firstRefused tell (suc i) n)
+
+abbrev pub allPainted : (ℕ → Told) → ℕ → ℕ → List Paint
+allPainted tell i zero = []
+allPainted tell i (suc n) = tell i .paints ++ allPainted tell (suc i) n
+
+-- what record i of the model u tells, as the 19 that it is, if 1B has the words p
+abbrev pub recordTold : Look → Settings → List ℕ → Whole → ℕ → Told
+recordTold look s p u i = told look s 0x19 (recordAt (wordAt p 1) (u .words) i)
+
+-- what 1B with the words p tells, where the model u is held under its number. "In a model draw a refused triangle sets bit 3 and the next one is still drawn"
+pub record Records (look : Look) (s : Settings) (p : List ℕ) (u : Whole) (t : Told) : Type 0 where
+  pub whole : (i : ℕ) → i < u .wide → length (recordAt (wordAt p 1) (u .words) i) ≡ 29
+  pub is : t ≡ tells (firstRefused (recordTold look s p u) 0 (u .wide)) s (allPainted (recordTold look s p u) 0 (u .wide))
 
 -- ---- "no room"
 -- "01's store rule over that history", of an upload
