@@ -10,6 +10,7 @@ pub mod Domain
 pub mod Status
 pub mod Refused
 pub mod Calls
+pub mod Flats
 pub mod Table
 pub mod Drawn
 pub mod Idle

@@ -1,21 +1,13 @@
 -- The table of thirteen: `thirteen`. After a reset words leave what they leave on the plain machine, which antt computes; a clear is computed over any memory; the rest is cited. Assumes nothing.
-use Prim.Native.Nat.{ℕ, zero, suc, _+_, _*_, _/_, _%_, _≤_, _<_}
+use Prim.Native.Nat.{ℕ, zero, _≤_}
 use mathlib.Core.Path.{_≡_, refl, ap, _∙_}
-use mathlib.Core.Bool.{Bool, true, false, cond, not, _&&_}
 use mathlib.Core.List.{List, [], _∷_}
-use native.Mathlib.Nat.{zero-add, suc-add}
 use native.Mathlib.Omega.{arith}
-use borrow.Author.Tests.{eq-eqb, lt-ltb, le-ltb}
+use borrow.Author.Tests.{eq-eqb, le-ltb}
 use lib.Bits.{bitOr}
-use lib.Dec.{eqb}
-use lib.IntN.{ℤ, pos, negsuc}
-use lib.Signed.{ltZ}
-use lib.ListN.{length, getD, set, take, replicate, length-replicate, getD-replicate}
+use lib.ListN.{length, set, take}
 use Rattle.laws.specs.Cells.{mapAt}
-use Rattle.laws.proofs.Cells.{length-mapAt}
-use Rattle.screen.specs.Dither.{levelOf, ditherOf}
-use Rattle.screen.specs.Plane.{width, height, planeBytes, shown, paint, pixelOf}
-use Rattle.screen.proofs.Pixels.{on-screen}
+use Rattle.screen.specs.Plane.{paint}
 use Rattle.screen.specs.Draw.{pixels}
 use Rattle.screen.proofs.Cases as screen
 use Rattle.raster.proofs.Cases as raster
@@ -31,12 +23,9 @@ use Rattle.store.specs.declared.Kind.the-variants.{Texture, Model}
 use Rattle.store.specs.Uploads.{Whole, live}
 use Rattle.store.specs.Slots.{wholeOf, view}
 use Rattle.store.proofs.Kept.{Keeps, keeps-view, keeps-look}
-use Rattle.flat.specs.Edge.{edgeOf, agreesOf, hasArea, insideOf, weightedOf}
-use Rattle.flat.specs.Tri.{areaOf, weight0, weight1, weight2, covers, depthAt, shows, triPlane}
-use Rattle.flat.specs.Words.{shadedOf, triOf, flatVerdict, inReach, flatDepths, flatPlane}
-use Rattle.flat.proofs.Side.{below-it}
+use Rattle.flat.specs.Words.{triOf, flatVerdict, inReach}
 use Rattle.flat.proofs.Cases as cases
-use Rattle.flat.proofs.Cases.{corner, six, byte-after}
+use Rattle.flat.proofs.Cases.{corner}
 use Rattle.execute.specs.Paints as paints
 use Rattle.execute.specs.Paints.{Picture, picture, paintOn, paintsOn}
 use Rattle.execute.specs.Commands.{told, commandOf, textureVerdict, paintedBy, clearPainted, clearPaints, flatPainted, rgbaOf}
@@ -47,9 +36,10 @@ use Rattle.vpu.specs.Calls.{stateOf, Lengths, reset}
 use Rattle.claims.specs.Plain.{Past, asPast, plainFresh, plainStart}
 use Rattle.claims.specs.Runs.{feedOn, afterAll, AllAllowed}
 use Rattle.claims.specs.Thirteen as table
-use Rattle.claims.specs.Thirteen.{InStore, HeaderNext, statusOf, pixelIn, depthIn, colour, countOf, drawn, utmost, three}
+use Rattle.claims.specs.Thirteen.{InStore, HeaderNext, statusOf, utmost, three}
 use Rattle.claims.proofs.Calls.{feed-answers}
 use Rattle.claims.proofs.Demand3.{fed-done, words-shown}
+use Rattle.claims.proofs.Flats.{fresh-start, shown-six, shown-seven, shown-eight, shown-utmost}
 
 -- ---- after a reset: the machine beside the plain one
 -- stores of t and m words
@@ -131,9 +121,9 @@ module _ (t u : ℕ) (p : Picture) where
   unfolding run word header gather execute told commandOf paintedBy flatPainted flatVerdict inReach paintsOn
   flat-left z0 z1 z2 = refl
 
-  utmost-left : left (0x1200_000b ∷ utmost) .control .notes .status ≡ 0
-  unfolding run word header gather execute told commandOf paintedBy flatPainted flatVerdict inReach
-  utmost-left = refl
+  utmost-left : (left (0x1200_000b ∷ utmost) .control .notes .status ≡ 0) × (left (0x1200_000b ∷ utmost) .picture ≡ paintOn (paints.flat (triOf utmost)) p)
+  unfolding run word header gather execute told commandOf paintedBy flatPainted flatVerdict inReach paintsOn
+  utmost-left = (refl, refl)
 
   -- one coordinate beyond, on either side
   abbrev Out : ℕ → Type 0
@@ -213,121 +203,6 @@ module _ (m : Machine) (ok : feedOn m [] .answer ≡ 0) (idle : m .control .want
       let long : 3 ≤ length (m .control .box .area) = omega (arith, taken .of-command) in
       (zero, rw (is, is-waiting m (i .0) (i .1) idle) (clear-run _ _ _ _ _ _ long a b c))
 
--- ---- 6: the plane after the triangle, byte by byte and pixel by pixel
-abbrev start : List ℕ
-start = replicate planeBytes 0
-
-abbrev far : ℤ
-far = pos 2147483647
-
-alpha-six : (k : ℕ) → paint (triOf six .color) (k * 4 + 3) 0 ≡ 255
-unfolding paint shown triOf
-alpha-six k =
-    let last : (k * 4 + 3) % 4 ≡ 3 = omega arith in
-    rw last
-
--- four bytes that are written, the last as 255, or left at 0
-four : (b : Bool) (x y z : ℕ) → not (eqb (cond b 255 0) 0 && (eqb (cond b x 0) 0 && (eqb (cond b y 0) 0 && eqb (cond b z 0) 0))) ≡ b
-four true x y z = refl
-four false x y z = refl
-
-module _ (P : List ℕ) (D : List ℤ) (of-plane : P ≡ start) (of-depth : D ≡ farInts pixels) where
-  byte-six : (j : ℕ) → j < planeBytes → getD (triPlane (triOf six) D P) j 0 ≡ cond (shows (triOf six) (j / 4) far) (paint (triOf six .color) j 0) 0
-  unfolding flatPlane flatVerdict inReach
-  byte-six j h =
-      let old : getD P j 0 ≡ 0 = ap (λ (l : List ℕ). getD l j 0) of-plane ∙ getD-replicate planeBytes j 0 0 h in
-      let deep : getD D (j / 4) (pos 0) ≡ far = ap (λ (l : List ℤ). getD l (j / 4) (pos 0)) of-depth ∙ getD-replicate pixels (j / 4) far (pos 0) (omega arith) in
-      let long : length P ≡ planeBytes = ap length of-plane ∙ length-replicate {A = ℕ} planeBytes 0 in
-      rw (deep, old) at (byte-after six D refl P j (omega arith))
-
-  channel-six : (k i : ℕ) → k < pixels → i < 4 → getD (triPlane (triOf six) D P) (k * 4 + i) 0 ≡ cond (shows (triOf six) k far) (paint (triOf six .color) (k * 4 + i) 0) 0
-  channel-six k i h l =
-      let j : (k * 4 + i) / 4 ≡ k = omega arith in
-      rw j at (byte-six (k * 4 + i) (omega arith))
-
-  drawn-six : (k : ℕ) → k < pixels → drawn (triPlane (triOf six) D P) k ≡ shows (triOf six) k far
-  unfolding drawn
-  drawn-six k h =
-      let none : k * 4 / 4 ≡ k = omega arith in
-      let first : getD (triPlane (triOf six) D P) (k * 4) 0 ≡ cond (shows (triOf six) k far) (paint (triOf six .color) (k * 4) 0) 0 = rw none at (byte-six (k * 4) (omega arith)) in
-      rw (channel-six k 3 h (omega arith), channel-six k 2 h (omega arith), channel-six k 1 h (omega arith), first, alpha-six k)
-      (four (shows (triOf six) k far) (paint (triOf six .color) (k * 4 + 2) 0) (paint (triOf six .color) (k * 4 + 1) 0) (paint (triOf six .color) (k * 4) 0))
-
--- which pixels are counted
-countOf-same : (f g : ℕ → Bool) (n : ℕ) → ((k : ℕ) → k < n → f k ≡ g k) → countOf f n ≡ countOf g n
-unfolding countOf
-countOf-same f g zero h = refl
-countOf-same f g (suc n) h = rw (h n (omega arith), countOf-same f g n (λ k l. h k (omega arith)))
-
-abbrev covered : ℕ → Bool
-covered k = shows (triOf six) k far
-
-below-five : (k : ℕ) → 5 * width ≤ k → covered k ≡ false
-unfolding shows triOf
-below-five k h =
-    let row : 5 ≤ k / width = omega arith in
-    rw (below-it (triOf six) (k % width) (k / width) (record { first = past 0 (omega arith); second = past 0 (omega arith); third = past 4 (omega arith) }))
-  where
-    past : (n : ℕ) → n < k / width → ltZ (pos n) (pos (k / width)) ≡ true
-    past n h = lt-ltb n (k / width) h
-
-five-rows : countOf covered (5 * width) ≡ 15
-unfolding countOf triOf shows covers depthAt areaOf weight0 weight1 weight2 edgeOf insideOf hasArea agreesOf weightedOf
-five-rows = refl
-
-skip : (n : ℕ) → 5 * width ≤ n → countOf covered (suc n) ≡ countOf covered n
-unfolding countOf
-skip n h = ap (λ (b : Bool). cond b 1 0 + countOf covered n) (below-five n h) ∙ zero-add (countOf covered n)
-
-more : (k : ℕ) → countOf covered (k + 5 * width) ≡ countOf covered (5 * width)
-more zero = ap (countOf covered) (zero-add (5 * width))
-more (suc k) = ap (countOf covered) (suc-add k (5 * width)) ∙ skip (k + 5 * width) (omega arith) ∙ more k
-
-covered-count : countOf covered pixels ≡ 15
-covered-count = more 75200 ∙ five-rows
-
--- what the triangle leaves on a picture as a reset leaves it
-record Fresh (p : Picture) : Type 0 where
-  plane : p .plane ≡ start
-  depth : p .depth ≡ farInts pixels
-
-module _ (p : Picture) (h : Fresh p) where
-  long : length (p .plane) ≡ planeBytes
-  long = ap length (h .plane) ∙ length-replicate {A = ℕ} planeBytes 0
-
-  pixel-six : (x y : ℕ) → x < width → y < height
-      → pixelOf (triPlane (triOf six) (p .depth) (p .plane)) x y
-      ≡ colour (cond (covered (y * width + x)) (paint (triOf six .color) ((y * width + x) * 4) 0) 0) (cond (covered (y * width + x)) (paint (triOf six .color) ((y * width + x) * 4 + 1) 0) 0)
-      (cond (covered (y * width + x)) (paint (triOf six .color) ((y * width + x) * 4 + 2) 0) 0) (cond (covered (y * width + x)) (paint (triOf six .color) ((y * width + x) * 4 + 3) 0) 0)
-  unfolding triPlane
-  pixel-six x y a b =
-      let k : ℕ = y * width + x in
-      let none : k * 4 / 4 ≡ k = omega arith in
-      let first : getD (triPlane (triOf six) (p .depth) (p .plane)) (k * 4) 0 ≡ cond (covered k) (paint (triOf six .color) (k * 4) 0) 0 = rw none at (byte-six (p .plane) (p .depth) (h .plane) (h .depth) (k * 4) (omega arith)) in
-      on-screen (triPlane (triOf six) (p .depth) (p .plane)) x y (length-mapAt _ (p .plane) ∙ long) a b
-      ∙ cc (first, channel-six (p .plane) (p .depth) (h .plane) (h .depth) k 1 (omega arith) (omega arith), channel-six (p .plane) (p .depth) (h .plane) (h .depth) k 2 (omega arith) (omega arith), channel-six (p .plane) (p .depth) (h .plane) (h .depth) k 3 (omega arith) (omega arith))
-
-  in-out : (pixelOf (triPlane (triOf six) (p .depth) (p .plane)) 2 2 ≡ colour 255 255 255 255) × (pixelOf (triPlane (triOf six) (p .depth) (p .plane)) 3 2 ≡ colour 0 0 0 0)
-  unfolding paint shown ditherOf levelOf triOf shadedOf shows covers depthAt areaOf weight0 weight1 weight2 edgeOf insideOf hasArea agreesOf weightedOf
-  in-out = (pixel-six 2 2 (omega arith) (omega arith), pixel-six 3 2 (omega arith) (omega arith))
-
-  module _ (m : Machine) where
-    shown-six : m .picture ≡ paintOn (paints.flat (triOf six)) p → (countOf (drawn (m .picture .plane)) pixels ≡ 15) × (pixelIn m 2 2 ≡ colour 255 255 255 255) × (pixelIn m 3 2 ≡ colour 0 0 0 0)
-    unfolding paintOn
-    shown-six e =
-        rw e
-        (countOf-same (drawn (triPlane (triOf six) (p .depth) (p .plane))) covered pixels (drawn-six (p .plane) (p .depth) (h .plane) (h .depth)) ∙ covered-count, in-out .0, in-out .1)
-
-    shown-seven : m .picture ≡ paintOn (paints.flat (triOf cases.seven)) p → (depthIn m 2 0 ≡ pos 1) × (depthIn m 0 1 ≡ pos 0) × (depthIn m 0 2 ≡ negsuc 0)
-    unfolding paintOn flatDepths flatVerdict inReach
-    shown-seven e = rw e (cases.case-7 (p .depth) (h .depth))
-
-    shown-eight : m .picture ≡ paintOn (paints.flat (triOf cases.eight)) p → m .picture ≡ p
-    unfolding paintOn flatDepths flatPlane flatVerdict inReach
-    shown-eight e =
-        let same = cases.case-8 (p .depth) (p .plane) (h .depth) long in
-        e ∙ (λ i. picture (same .1 i) (same .0 i) (p .depthF))
-
 -- ---- what the clears of 3 and 4 paint
 module _ (p : Picture) (v : ℕ) where
   four-paints : (rgba : ℕ) → paintsOn (clearPaints (4 ∷ rgba ∷ v ∷ [])) p ≡ p
@@ -342,9 +217,6 @@ module _ (p : Picture) (v : ℕ) where
   grey-paints : paintsOn (clearPaints (1 ∷ 0x8080_80ff ∷ v ∷ [])) p .plane ≡ mapAt (paint screen.grey) (p .plane)
   unfolding clearPaints paintsOn paintOn rgbaOf
   grey-paints = refl
-
-fresh-start : Fresh (plainStart .picture)
-fresh-start = record { plane = refl; depth = refl }
 
 -- ---- the table
 pub thirteen : table.Thirteen
@@ -383,7 +255,11 @@ thirteen = record {
   case-8 = by-plain (λ t u r m a. shown-eight (plainStart .picture) fresh-start m (a .picture ∙ flat-left t u _ 2147483647 2147483647 2147483647));
   case-9 = cases.case-9;
   case-10 = (
-    by-plain (λ t u r m a. a .status ∙ utmost-left t u _),
+    by-plain
+        (λ t u r m a.
+        let l = utmost-left t u _ in
+        let ends = shown-utmost (plainStart .picture) fresh-start m (a .picture ∙ l .1) in
+        (a .status ∙ l .0, ends .0, ends .1)),
     (by-plain (λ t u r m a. a .status ∙ beyond-left t u _ .0 .0), by-plain (λ t u r m a. a .status ∙ beyond-left t u _ .0 .1)),
     (by-plain (λ t u r m a. a .status ∙ beyond-left t u _ .1 .0), by-plain (λ t u r m a. a .status ∙ beyond-left t u _ .1 .1)),
     (by-plain (λ t u r m a. a .status ∙ beyond-left t u _ .2 .0), by-plain (λ t u r m a. a .status ∙ beyond-left t u _ .2 .1)),

@@ -80,9 +80,9 @@ clear flags rgba unused = 0x0400_0003 ∷ flags ∷ rgba ∷ unused ∷ []
 abbrev pub flat : ℕ → ℕ → ℕ → List ℕ
 flat z0 z1 z2 = 0x1200_000b ∷ 0 ∷ 0 ∷ z0 ∷ 4 ∷ 0 ∷ z1 ∷ 0 ∷ 4 ∷ z2 ∷ 0xff_ffff ∷ 255 ∷ []
 
--- 12 with every coordinate 8192 or -8192
+-- 12 with every coordinate 8192 or -8192, white at full shade: on (8192,-8192), (8192,8192), (-8192,8192), so that the screen is inside
 abbrev pub utmost : List ℕ
-utmost = 8192 ∷ 4294959104 ∷ 0 ∷ 8192 ∷ 4294959104 ∷ 2147483648 ∷ 4294959104 ∷ 8192 ∷ 2147483647 ∷ 0 ∷ 0 ∷ []
+utmost = 8192 ∷ 4294959104 ∷ 0 ∷ 8192 ∷ 8192 ∷ 2147483648 ∷ 4294959104 ∷ 8192 ∷ 2147483647 ∷ 0xff_ffff ∷ 255 ∷ []
 
 -- one of them 8193, or -8193
 abbrev pub Beyond : ℕ → Type 0
@@ -120,8 +120,8 @@ pub record Thirteen : Type 0 where
   pub case-9 : (a b c d e f g h i rgb : ℕ)
       → (triOf (a ∷ b ∷ c ∷ d ∷ e ∷ f ∷ g ∷ h ∷ i ∷ 0x80_8080 ∷ 128 ∷ []) .color ≡ record { r = 64; g = 64; b = 64; a = 255 })
       × (triOf (a ∷ b ∷ c ∷ d ∷ e ∷ f ∷ g ∷ h ∷ i ∷ rgb ∷ 300 ∷ []) ≡ triOf (a ∷ b ∷ c ∷ d ∷ e ∷ f ∷ g ∷ h ∷ i ∷ rgb ∷ 255 ∷ []))
-  -- "A coordinate of 8192 is taken; 8193 gives status 8", each of the six and on either side
-  pub case-10 : AfterReset (0x1200_000b ∷ utmost) (λ m. statusOf m ≡ 0) × Beyond 0 × Beyond 1 × Beyond 3 × Beyond 4 × Beyond 6 × Beyond 7
+  -- "A coordinate of 8192 is taken; 8193 gives status 8", each of the six and on either side. Taken: it is drawn, here to the first pixel and to the last
+  pub case-10 : AfterReset (0x1200_000b ∷ utmost) (λ m. (statusOf m ≡ 0) × (pixelIn m 0 0 ≡ colour 255 255 255 255) × (pixelIn m 319 239 ≡ colour 255 255 255 255)) × Beyond 0 × Beyond 1 × Beyond 3 × Beyond 4 × Beyond 6 × Beyond 7
   -- "1 × 1 texture, word F0A51234: texel 255, 0, 170, 85": as it is held, and read, wherever it is sampled
   pub case-11 : (n : ℕ)
       → InStore (λ size. 1 ≤ size) (0x1700_0004 ∷ n ∷ 1 ∷ 1 ∷ 0xf0a5_1234 ∷ []) (λ m. (statusOf m ≡ 0) × (asBox .look (m .control .box) Texture n ≡ some (wholeOf n 1 1 (0xf0a5_1234 ∷ []))))

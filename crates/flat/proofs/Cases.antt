@@ -156,7 +156,12 @@ case-9 a b c d e f g h i rgb = (refl, refl)
 
 -- ---- case 10: "A coordinate of 8192 is taken; 8193 gives status 8", on either side; the index is that of the coordinate, the first of several
 abbrev pub utmost : List ℕ
-utmost = 8192 ∷ 4294959104 ∷ 0 ∷ 8192 ∷ 4294959104 ∷ 2147483648 ∷ 4294959104 ∷ 8192 ∷ 2147483647 ∷ 0 ∷ 0 ∷ []
+utmost = 8192 ∷ 4294959104 ∷ 0 ∷ 8192 ∷ 8192 ∷ 2147483648 ∷ 4294959104 ∷ 8192 ∷ 2147483647 ∷ 0xff_ffff ∷ 255 ∷ []
+
+-- the triangle that is taken has an area
+pub utmost-area : hasArea (areaOf (triOf utmost)) ≡ true
+unfolding triOf areaOf edgeOf hasArea
+utmost-area = refl
 
 pub case-10 : (flatVerdict utmost ≡ Done)
     × (flatVerdict (set utmost 0 8193) ≡ Refused OutOfRange 0)
