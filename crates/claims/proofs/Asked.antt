@@ -154,7 +154,7 @@ others-low size c e =
       is = rw e;
     }
 
--- the rule, spelt out: "the number is new and 64 are held, or words in use plus the new words exceed the store"
+-- the rule, spelt out: the number is new and 64 are held, or words in use plus the new words exceed the store
 pub room-says : (size : ℕ) (cs : List Card) (n new : ℕ) → isFits (room size cs n new) ≡ not ((not (holds n cs) && leb 64 (length cs)) || ltb size (total cs + new))
 room-says size cs n new = go (not (holds n cs) && leb 64 (length cs)) (ltb size (total cs + new))
   where

@@ -140,7 +140,7 @@ module _ {X : Type 0} (K : Keep X) (c : Control X) (r : Reason) (i : ℕ) (e : v
       room NoSlot h = refl
       room NoWords h = refl
 
-  -- "clear flags and model draws" among them: settings and uploads stay
+  -- clear flags and model draws among them: settings and uploads stay
   pub refused-leaves : Left K c r
   unfolding execute
   refused-leaves =

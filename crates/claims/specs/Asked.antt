@@ -1,4 +1,4 @@
--- Demand 3, "a draw gets the last accepted upload of its kind under that number, and is refused for want of one exactly if there is none", and "no room" by the store rule: what these say of a history. Definitions only.
+-- Demand 3, a draw gets the last accepted upload of its kind under that number, and is refused for want of one exactly if there is none, and "no room" by the store rule: what these say of a history. Definitions only.
 use Prim.Native.Nat.{ℕ, zero, suc, _*_, _≤_, _<_}
 use mathlib.Core.Path.{_≡_}
 use mathlib.Core.Bool.{Bool}
@@ -49,7 +49,7 @@ pub record Draws (found : Option Whole) (s : Settings) (p : List ℕ) (normal : 
   pub gets : t .paints ≡ map stroked (texturedStrokes s p normal found)
 
 -- ---- 1B: a model is drawn as so many 19s
--- record i of a model's words, with the draw's mode: "each record of 28 words becomes a 29-word triangle"
+-- record i of a model's words, with the draw's mode: each record of 28 words becomes a 29-word triangle
 abbrev pub recordAt : ℕ → List ℕ → ℕ → List ℕ
 recordAt mode words i = triangleOf mode (drop (28 * i) words)
 

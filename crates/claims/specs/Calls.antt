@@ -21,13 +21,13 @@ module _ (P : List ℕ) (D : List ℤ) (F : List Float) (C T M : List ℕ) where
 
   -- o is what a feed comes to, of the state s and the words ws
   pub record Fed (s : State) (ws : List ℕ) (o : Outcome) : Type 0 where
-    -- "1: a lent length is wrong", exactly
+    -- 1: a lent length is wrong, exactly
     pub one : o .answer ≡ 1 → Right → ⊥
     pub one-if : (Right → ⊥) → o .answer ≡ 1
-    -- "2: malformed state", exactly, and "1 is tested before 2"
+    -- 2: malformed state, exactly, and "1 is tested before 2"
     pub two : o .answer ≡ 2 → Right × (wellFormed s (length T) (length M) ≡ false)
     pub two-if : Right → wellFormed s (length T) (length M) ≡ false → o .answer ≡ 2
-    -- "0: done", exactly
+    -- 0: done, exactly
     pub zero : o .answer ≡ 0 → Right × (wellFormed s (length T) (length M) ≡ true)
     pub zero-if : Right → wellFormed s (length T) (length M) ≡ true → o .answer ≡ 0
     -- "as the rules say"
