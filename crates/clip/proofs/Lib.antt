@@ -5,3 +5,4 @@ pub mod Planes
 pub mod Whole
 pub mod Fan
 pub mod Lighter
+pub mod Reached

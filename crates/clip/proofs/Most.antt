@@ -11,7 +11,7 @@ use lib.ListN.{length, length-append}
 use lib.Dec.{ltb}
 use lib.Ieee.{unlike}
 use Rattle.clip.specs.Polygons.{Kind, insideOf, crossingOf, sideOf, sidesFrom, lastOf, clip, clipFrom, clipAll}
-use Rattle.clip.specs.Vertices.{room}
+use Rattle.clip.specs.Vertices.{room, cuttable}
 
 abbrev pub weight : Bool → ℕ
 weight true = 1
@@ -67,7 +67,7 @@ most-more n (suc d) =
     rw e (omega (arith, most-more n d, most-out (n + d) 3))
 
 -- five planes leave 19 at most
-pub most-five : (n : ℕ) → n < 6 → most n 3 ≤ 19
+pub most-five : (n : ℕ) → n < 6 → most n 3 ≤ cuttable
 most-five zero h = omega arith
 most-five (suc zero) h = omega arith
 most-five (suc (suc zero)) h = omega arith

@@ -12,7 +12,7 @@ use borrow.Author.Tests.{lt-ltb, le-ltb}
 use Rattle.clip.specs.declared.vertex.ClipVertex.{ClipVertex}
 use Rattle.clip.specs.declared.polygon.Polygon.{Polygon}
 use Rattle.clip.specs.Polygons.{clip, clipFrom, clipAll, nextCut}
-use Rattle.clip.specs.Vertices.{noVertex, full, of, Holds}
+use Rattle.clip.specs.Vertices.{noVertex, full, cuttable, of, Holds}
 use Rattle.clip.proofs.Whole.{next-bounds, skipped}
 use Rattle.clip.proofs.Most.{most, most-out, most-more, most-five, twice-most}
 
@@ -24,7 +24,7 @@ pub record Carried (answer : List ClipVertex) (p : Polygon) (plane : ℕ) : Type
   pub rest : clipFrom full (6 - plane) plane (of p) ≡ answer
 
 module _ {answer : List ClipVertex} {p : Polygon} {plane : ℕ} (w : Carried answer p plane) (here : plane < 6) where
-  pub at-most : p .count ≤ 19
+  pub at-most : p .count ≤ cuttable
   at-most = omega (arith, most-five plane here, w .few)
 
   next-is : cond (ltb (length (clip full plane (of p))) 3) [] (clipFrom full (5 - plane) (plane + 1) (clip full plane (of p))) ≡ answer

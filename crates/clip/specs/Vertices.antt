@@ -61,6 +61,10 @@ noVertex = record { position = []; «view_position» = []; normal = []; color = 
 abbrev pub room : ℕ
 room = 28
 
+-- a polygon that a plane may be asked to cut: five planes leave no more vertices, and of so many one plane leaves no more than there is room for
+abbrev pub cuttable : ℕ
+cuttable = 19
+
 -- "arrays of 28 with a count": the polygon is its first `count` vertices
 abbrev pub of : Polygon → List ClipVertex
 of p = take (p .count) (p .vertices)

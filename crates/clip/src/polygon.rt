@@ -6,7 +6,7 @@ ghost use mathlib.Core.Path.{_≡_};
 ghost use mathlib.Core.List.{[], _∷_};
 ghost use Prim.Native.Nat.{_-_, _≤_};
 ghost use Rattle.clip.specs.Polygons.{clip, clipAll, nextCut, allInside};
-ghost use Rattle.clip.specs.Vertices.{full, room, of, Holds};
+ghost use Rattle.clip.specs.Vertices.{full, room, cuttable, of, Holds};
 
 // What six planes can make of three vertices, however the distances round.
 pub const ROOM: usize = 28;
@@ -64,7 +64,7 @@ fn next_cut(polygon: Polygon, plane: usize) -> usize
 
 // The polygon cut at one plane. Nineteen vertices become 28 at most.
 pub fn clip_polygon(polygon: Polygon, plane: usize) -> Polygon
-    requires { ⌜ polygon .count ≤ 19 ⌝ }
+    requires { ⌜ polygon .count ≤ cuttable ⌝ }
     ensures { λ r. ⌜ Holds r (clip full plane (of polygon)) ⌝ }
 {
     let count = polygon.count;

@@ -1,5 +1,4 @@
--- Document 01, "Numbers to be proved", cases 6 to 10, of the command's own definitions over its words; what it leaves at each place; and that its contract
--- admits one outcome alone. Assumes nothing.
+-- Document 01, "Numbers to be proved", cases 6 to 10, of the command's own definitions over its words; and what it leaves at each place. Assumes nothing.
 use mathlib.Core.Path.{_≡_, refl, sym, ap, _∙_}
 use mathlib.Core.Bool.{Bool, true, false, cond, and-false}
 use mathlib.Core.List.{List, [], _∷_}
@@ -16,7 +15,6 @@ use Rattle.screen.specs.Plane.{width, planeBytes, paint}
 use Rattle.screen.specs.Draw.{pixels, depthStep, byteStep}
 use Rattle.screen.specs.Depths.{farInts}
 use Rattle.verdict.specs.declared.Reason.the-variants.{OutOfRange}
-use Rattle.verdict.specs.declared.Verdict.{Verdict}
 use Rattle.verdict.specs.declared.Verdict.the-variants.{Done, Refused}
 use Rattle.verdict.specs.Verdict.{bitsOf}
 use Rattle.flat.specs.declared.tri.Tri.{Tri}
@@ -175,10 +173,3 @@ pub case-10 : (flatVerdict utmost ≡ Done)
     × (bitsOf (flatVerdict (set utmost 0 8193)) ≡ 8)
 unfolding flatVerdict inReach
 case-10 = (refl, refl, refl, refl, refl, refl, refl, refl, refl, refl)
-
--- ---- two outcomes that satisfy the contract of `draw_flat_triangle` are one
-pub only : (p : List ℕ) (D : List ℤ) (P : List ℕ) (v₁ v₂ : Verdict) (D₁ D₂ : List ℤ) (P₁ P₂ : List ℕ)
-    → (v₁ ≡ flatVerdict p) × (D₁ ≡ flatDepths p D) × (P₁ ≡ flatPlane p D P)
-    → (v₂ ≡ flatVerdict p) × (D₂ ≡ flatDepths p D) × (P₂ ≡ flatPlane p D P)
-    → (v₁ ≡ v₂) × (D₁ ≡ D₂) × (P₁ ≡ P₂)
-only p D P v₁ v₂ D₁ D₂ P₁ P₂ (a, b, c) (d, e, f) = (a ∙ sym d, b ∙ sym e, c ∙ sym f)

@@ -7,3 +7,4 @@ pub mod Cell
 pub mod Turn
 pub mod Placed
 pub mod Cases
+pub mod Only

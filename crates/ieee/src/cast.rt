@@ -1,6 +1,6 @@
 // Floats to whole numbers: total, saturating, NaN gives 0.
 ghost use mathlib.Core.Path.{_≡_};
-ghost use Prim.Native.Nat.{_≤_, _<_};
+ghost use Prim.Native.Nat.{_^_, _≤_, _<_};
 ghost use lib.Dec.{T};
 ghost use lib.IntN.{pos, negℤ};
 ghost use lib.Ieee.{binary32, ofBits, le};
@@ -102,6 +102,7 @@ pub fn unit_byte(v: f32) -> u8
 // The column or row of a texture at u.
 pub fn texel(u: f32, side: u32) -> usize
     requires { ⌜ 0 < side ⌝ }
+    requires { ⌜ side ≤ 2 ^ 24 ⌝ }
     ensures { λ r. ⌜ r ≡ texelOf u side ⌝ }
 {
     cut(u * std::num::nearest_u32_to_f32(side), side - 1) as usize

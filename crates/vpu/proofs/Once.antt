@@ -6,16 +6,23 @@ use native.Mathlib.Omega.{arith}
 use lib.IntN.{ℤ}
 use lib.Ieee.{Float}
 use lib.ListN.{getD}
-use Rattle.screen.specs.Plane.{Answered, answered, pixelOf}
+use Rattle.laws.specs.Contracts.{Determines}
+use Rattle.screen.specs.Plane.{Answered, answered}
 use Rattle.screen.specs.declared.plane.Rgba.{Rgba}
 use Rattle.screen.specs.declared.plane.Read.{Read}
 use Rattle.screen.specs.declared.plane.Read.the-variants.{Colour, WrongLength}
-use Rattle.state.specs.declared.State.{State}
 use Rattle.execute.specs.Kept.{machine}
 use Rattle.vpu.specs.declared.Answer.{Answer}
 use Rattle.vpu.specs.declared.Answer.the-variants as answer
-use Rattle.vpu.specs.Calls.{Outcome, outcome, numberOf, feed, reset}
+use Rattle.vpu.specs.declared.Fed.{Fed}
+use Rattle.vpu.specs.Calls.{Outcome, outcome, numberOf}
 use Rattle.vpu.proofs.Laws.{Same, machine-parts}
+use Rattle.vpu.proofs.reset.Kinds as reset
+use Rattle.vpu.proofs.reset.Reads as reset-reads
+use Rattle.vpu.proofs.feed.Kinds as feed
+use Rattle.vpu.proofs.feed.Reads as feed-reads
+use Rattle.vpu.proofs.pixel.Kinds as pixel
+use Rattle.vpu.proofs.pixel.Reads as pixel-reads
 
 -- the three answers have three numbers
 pub number-once : (a b : Answer) → numberOf a ≡ numberOf b → a ≡ b
@@ -29,33 +36,24 @@ number-once answer.Malformed answer.Done e = absurd (omega arith)
 number-once answer.Malformed answer.WrongLength e = absurd (omega arith)
 number-once answer.Malformed answer.Malformed e = refl
 
--- answers and machines that agree
-pub record Once (a : Answer) (s : State) (P : List ℕ) (D : List ℤ) (F : List Float) (C T M : List ℕ) (a′ : Answer) (s′ : State) (P′ : List ℕ) (D′ : List ℤ) (F′ : List Float) (C′ T′ M′ : List ℕ) : Type 0 where
-  pub answer-is : a ≡ a′
-  pub left : Same s P D F C T M s′ P′ D′ F′ C′ T′ M′
+-- two results with lent memories that are one outcome
+module _ (x y : Fed) {P P′ : List ℕ} {D D′ : List ℤ} {F F′ : List Float} {C C′ T T′ M M′ : List ℕ} {o : Outcome}
+    (p : outcome (numberOf (x .answer)) (machine (x .state) P D F C T M) ≡ o) (q : outcome (numberOf (y .answer)) (machine (y .state) P′ D′ F′ C′ T′ M′) ≡ o) where
+  same : Same (x .state) P D F C T M (y .state) P′ D′ F′ C′ T′ M′
+  same = machine-parts (ap (λ (o : Outcome). o .machine) (p ∙ sym q))
 
-module _ {a a′ : Answer} {s s′ : State} {P P′ : List ℕ} {D D′ : List ℤ} {F F′ : List Float} {C C′ T T′ M M′ : List ℕ} where
-  pub once : {x : Outcome} → outcome (numberOf a) (machine s P D F C T M) ≡ x → outcome (numberOf a′) (machine s′ P′ D′ F′ C′ T′ M′) ≡ x
-      → Once a s P D F C T M a′ s′ P′ D′ F′ C′ T′ M′
-  once p q =
-      let e = p ∙ sym q in
-      record {
-        answer-is = number-once a a′ (ap (λ (o : Outcome). o .answer) e);
-        left = machine-parts (ap (λ (o : Outcome). o .machine) e);
-      }
+  fed-once : x ≡ y
+  fed-once = λ i. record { answer = number-once (x .answer) (y .answer) (ap (λ (o : Outcome). o .answer) (p ∙ sym q)) i; state = same .state-is i }
 
--- of memory as it was before the call
-module _ (P₀ : List ℕ) (D₀ : List ℤ) (F₀ : List Float) (C₀ T₀ M₀ : List ℕ) where
-  module _ {a a′ : Answer} {s s′ : State} {P P′ : List ℕ} {D D′ : List ℤ} {F F′ : List Float} {C C′ T T′ M M′ : List ℕ} where
-    pub reset-once : outcome (numberOf a) (machine s P D F C T M) ≡ reset P₀ D₀ F₀ C₀ T₀ M₀
-        → outcome (numberOf a′) (machine s′ P′ D′ F′ C′ T′ M′) ≡ reset P₀ D₀ F₀ C₀ T₀ M₀
-        → Once a s P D F C T M a′ s′ P′ D′ F′ C′ T′ M′
-    reset-once = once
+pub reset-once : Determines 6 reset.ps reset.r reset-reads.Learnt
+reset-once κs a x y ws vs p q =
+    let s = same x y p q in
+    (fed-once x y p q, λ i. (s .plane-is i, (s .depth-is i, (s .floats-is i, (tt, (s .textures-is i, (s .models-is i, tt)))))))
 
-    pub feed-once : (s₀ : State) (ws : List ℕ) → outcome (numberOf a) (machine s P D F C T M) ≡ feed s₀ ws P₀ D₀ F₀ C₀ T₀ M₀
-        → outcome (numberOf a′) (machine s′ P′ D′ F′ C′ T′ M′) ≡ feed s₀ ws P₀ D₀ F₀ C₀ T₀ M₀
-        → Once a s P D F C T M a′ s′ P′ D′ F′ C′ T′ M′
-    feed-once s₀ ws = once
+pub feed-once : Determines 7 feed.ps feed.r feed-reads.Learnt
+feed-once κs a x y ws vs p q =
+    let s = same x y p q in
+    (fed-once x y p q, λ i. (tt, (tt, (s .plane-is i, (s .depth-is i, (s .floats-is i, (s .command-is i, (s .textures-is i, (s .models-is i, tt)))))))))
 
 -- an answer to pixel is its number and its four bytes
 abbrev colourIn : List ℕ → Rgba
@@ -67,5 +65,5 @@ answered-once (Colour c) WrongLength e = let z : _≡_ {A = ℕ} 0 1 = ap (λ (a
 answered-once WrongLength (Colour d) e = let z : _≡_ {A = ℕ} 1 0 = ap (λ (a : Answered). a .number) e in absurd (omega arith)
 answered-once WrongLength WrongLength e = refl
 
-pub pixel-once : (plane : List ℕ) (x y : ℕ) (r r′ : Read) → answered r ≡ pixelOf plane x y → answered r′ ≡ pixelOf plane x y → r ≡ r′
-pixel-once plane x y r r′ p q = answered-once r r′ (p ∙ sym q)
+pub pixel-once : Determines 1 pixel.ps pixel.r pixel-reads.Learnt
+pixel-once κs a x y ws vs p q = (answered-once x y (p ∙ sym q), refl)

@@ -5,7 +5,7 @@ use mathlib.Core.Logic.{⊎-elim}
 use native.Mathlib.Omega.{arith}
 use borrow.Author.Needs.{needs}
 use lib.ListN.{length, getD, length-map}
-use Rattle.clip.specs.Vertices.{of, noVertex}
+use Rattle.clip.specs.Vertices.{room, of, noVertex}
 use Rattle.clip.proofs.Turn.{Walked, Half, Side, side-of, begun, ended, empty, cross-fits, crossed, uncrossed, end-fits, entered, left-out}
 use Rattle.clip.proofs.polygon.clip_polygon.Statement.{statement}
 use Rattle.clip.proofs.polygon.clip_polygon.Tie as tie
@@ -18,8 +18,8 @@ abbrev μ-loop : tie.MeasureT-loop
 μ-loop plane polygon count previous₀ previous-distance₀ output₀ n₀ i₀ previous previous-distance output n i =
     count - i
 
--- the array of the parameter has 28 elements, by what owning it tells
-full : (c : tie.Start Inv-loop μ-loop) → length (c .args .t1 .vertices) ≡ 28
+-- the array of the parameter has room for so many, by what owning it tells
+full : (c : tie.Start Inv-loop μ-loop) → length (c .args .t1 .vertices) ≡ room
 full c = simp length-map at (c .good .0 .1 .1 .0 .1 .0 .1)
 
 -- the side of this turn
@@ -44,10 +44,10 @@ half c =
     (c .if2 .came)
 
 -- a crossing finds room, and so does an end
-cross-room : (c : tie.Then2 Inv-loop μ-loop) → c .before .before .before .before .loop .n < 28
+cross-room : (c : tie.Then2 Inv-loop μ-loop) → c .before .before .before .before .loop .n < room
 cross-room c = cross-fits (c .before .before .before .before .loop .inv .1) (side (c .before)) (c .if2 .taken)
 
-end-room : (c : tie.Then3 Inv-loop μ-loop) → c .before .if2 .n < 28
+end-room : (c : tie.Then3 Inv-loop μ-loop) → c .before .if2 .n < room
 end-room c = end-fits (half (c .before)) (side (c .before .before)) (c .if3 .taken)
 
 returns : tie.Need-returns Inv-loop μ-loop

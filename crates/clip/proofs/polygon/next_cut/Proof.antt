@@ -7,7 +7,7 @@ use borrow.Author.Needs.{needs}
 use lib.ListN.{length, drop, getD, length-map, drop-of-length-le}
 use lib.Seq.{length-take-le}
 use Rattle.clip.specs.Polygons.{nextCut}
-use Rattle.clip.specs.Vertices.{full, of, noVertex}
+use Rattle.clip.specs.Vertices.{full, room, of, noVertex}
 use Rattle.clip.proofs.Held.{held-from}
 use Rattle.clip.proofs.Whole.{next-bounds, next-more, next-none}
 use Rattle.clip.proofs.polygon.next_cut.Statement.{statement}
@@ -20,10 +20,10 @@ Inv-loop plane polygon count stop₀ i₀ stop i =
 abbrev μ-loop : tie.MeasureT-loop
 μ-loop plane polygon count stop₀ i₀ stop i = count - i
 
--- the array of the parameter has 28 elements, by what owning it tells
+-- the array of the parameter has room for so many, by what owning it tells
 fits : (c : tie.Start Inv-loop μ-loop) → c .args .t1 .count ≤ length (c .args .t1 .vertices)
 fits c =
-    let long : length (c .args .t1 .vertices) ≡ 28 = simp length-map at (c .good .0 .1 .1 .0 .1 .0 .1) in
+    let long : length (c .args .t1 .vertices) ≡ room = simp length-map at (c .good .0 .1 .1 .0 .1 .0 .1) in
     omega arith
 
 loop-holds : tie.Need-loop-holds Inv-loop μ-loop
