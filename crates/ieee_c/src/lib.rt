@@ -1,7 +1,7 @@
 // The leaves and the four operations for C, so that a test can run them on any pattern: each export calls one leaf or
 // has one operation.
 ghost use mathlib.Core.Path.{_≡_};
-ghost use Prim.Native.Nat.{_<_};
+ghost use Prim.Native.Nat.{_^_, _≤_, _<_};
 ghost use lib.Ieee.{binary32, ofBits, toBits, add, sub, mul, div};
 ghost use lib.Ieee.Scale.{finite};
 ghost use Rattle.ieee.specs.Range.{clampOf, maxOf, tinyOf};
@@ -96,6 +96,7 @@ pub extern "C" fn ieee_past(x: f32) -> u32
 #[no_mangle]
 pub extern "C" fn ieee_texel(u: f32, side: u32) -> usize
     requires { ⌜ 0 < side ⌝ }
+    requires { ⌜ side ≤ 2 ^ 24 ⌝ }
     ensures { λ r. ⌜ r ≡ texelOf u side ⌝ }
 {
     ieee::cast::texel(u, side)
