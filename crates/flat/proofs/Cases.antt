@@ -31,11 +31,6 @@ module _ (p : List ℕ) (D : List ℤ) (done : flatVerdict p ≡ Done) where
   unfolding flatDepths triDepths depthStep
   depth-after k h = rw done (getD-mapAt (depthStep (shows (triOf p)) (depthOf (triOf p))) D k (pos 0) h)
 
-  pub byte-after : (P : List ℕ) (j : ℕ) → j < length P
-      → getD (flatPlane p D P) j 0 ≡ cond (shows (triOf p) (j / 4) (getD D (j / 4) (pos 0))) (paint (triOf p .color) j (getD P j 0)) (getD P j 0)
-  unfolding flatPlane triPlane byteStep
-  byte-after P j h = rw done (getD-mapAt (byteStep (pos 0) (shows (triOf p)) (paint (triOf p .color)) D) P j 0 h)
-
 -- ---- after reset
 abbrev far : ℤ
 far = pos 2147483647

@@ -8,11 +8,11 @@ use native.Mathlib.Decide.{decLe}
 use native.Mathlib.Omega.{arith}
 use borrow.Author.Tests.{ltb-true, ltb-false, eqb-true, lt-ltb, le-leb, lt-leb, eq-eqb, ne-eqb}
 use lib.Dec.{leb, ltb, eqb, leb·suc-suc, leb·suc-zero, eqb·suc-suc, eqb·zero-suc, eqb·suc-zero}
-use lib.IntN.{ℤ, pos, negsuc, _*ℤ_}
+use lib.IntN.{ℤ, pos, negsuc}
 use lib.Signed.{ltZ, leZ}
 use lib.Ieee.{Float, nan, inf, fin, up, down, below, level, lt, le, eq, ne}
 use Rattle.ieee.proofs.Compare.{differ}
-use Rattle.operations.specs.Operations.{signed, numer}
+use Rattle.operations.specs.Operations.{signed, over}
 use Rattle.operations.specs.Tests.{eqZ}
 use Rattle.operations.proofs.Operations.{signed-scale}
 use Rattle.operations.proofs.Zeros.{scaled}
@@ -92,31 +92,24 @@ eqZ-eq x y h = ap (eqZ x) (sym h) ∙ eqZ-same x
 
 -- ---- two finite numbers
 module _ (s : Bool) (m : ℕ) (e : ℤ) (t : Bool) (n : ℕ) (d : ℤ) where
-  -- both over the denominator down e * down d
-  abbrev pub first : ℤ
-  first = numer s m e *ℤ pos (down d)
-
-  abbrev pub second : ℤ
-  second = numer t n d *ℤ pos (down e)
-
-  over-one : (test : ℤ → ℤ → Bool) → test (signed s (m * up e * down d)) (signed t (n * up d * down e)) ≡ test first second
+  over-one : (test : ℤ → ℤ → Bool) → test (signed s (m * up e * down d)) (signed t (n * up d * down e)) ≡ test (over s m e d) (over t n d e)
   over-one test =
       ap (λ (z : ℤ). test z (signed t (n * up d * down e))) (sym (signed-scale s (m * up e) (down d)))
-      ∙ ap (test first) (sym (signed-scale t (n * up d) (down e)))
+      ∙ ap (test (over s m e d)) (sym (signed-scale t (n * up d) (down e)))
 
-  pub lt-exact : lt (fin s m e) (fin t n d) ≡ ltZ first second
+  pub lt-exact : lt (fin s m e) (fin t n d) ≡ ltZ (over s m e d) (over t n d e)
   unfolding lt
   lt-exact = below-is s t (m * up e * down d) (n * up d * down e) ∙ over-one ltZ
 
-  pub eq-exact : eq (fin s m e) (fin t n d) ≡ eqZ first second
+  pub eq-exact : eq (fin s m e) (fin t n d) ≡ eqZ (over s m e d) (over t n d e)
   unfolding eq
   eq-exact = level-is s t (m * up e * down d) (n * up d * down e) ∙ over-one eqZ
 
-  pub le-exact : le (fin s m e) (fin t n d) ≡ leZ first second
+  pub le-exact : le (fin s m e) (fin t n d) ≡ leZ (over s m e d) (over t n d e)
   unfolding le
-  le-exact = rw (lt-exact, eq-exact) (up-to-Z first second)
+  le-exact = rw (lt-exact, eq-exact) (up-to-Z (over s m e d) (over t n d e))
 
-  pub ne-exact : ne (fin s m e) (fin t n d) ≡ not (eqZ first second)
+  pub ne-exact : ne (fin s m e) (fin t n d) ≡ not (eqZ (over s m e d) (over t n d e))
   unfolding ne
   ne-exact = ap not eq-exact
 

@@ -17,6 +17,7 @@ use Rattle.verdict.specs.declared.Verdict.the-variants.{Done, Refused}
 use Rattle.payload.specs.Words.{wordAt, floatAt, threeAt, finiteFrom}
 use Rattle.payload.proofs.Done.{finite-done}
 use Rattle.laws.proofs.Bools.{either}
+use Rattle.settings.specs.Clauses.{Term, ambient, diffuse, specular, emission, position, term}
 use Rattle.settings.specs.Settings.{fresh, changed, modeVerdict, withMode, matrixVerdict, withMatrix, lightVerdict, lightOf, withLight, allOf, finiteList, lightOk, lightsOk, settingsOk}
 use Rattle.settings.specs.declared.Settings.{Settings}
 use Rattle.settings.proofs.All.{all-not, all-is, all-append, all-take, all-drop, all-set}
@@ -41,21 +42,6 @@ module _ (s : Settings) where
   formed c = rw (c .matrices-finite, le-leb _ _ (c .mode-small), c .lights-finite)
 
 -- ---- one clause decides
--- the five arrays of a light
-pub data Term : Type 0 where
-  ambient : Term
-  diffuse : Term
-  specular : Term
-  emission : Term
-  position : Term
-
-abbrev pub term : Term → Light → List Float
-term ambient l = l .ambient
-term diffuse l = l .diffuse
-term specular l = l .specular
-term emission l = l .emission
-term position l = l .position
-
 light-not : (l : Light) (t : Term) → finiteList (term t l) ≡ false → lightOk l ≡ false
 unfolding lightOk
 light-not l ambient e = rw e

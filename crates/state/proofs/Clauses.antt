@@ -10,7 +10,8 @@ use lib.ListN.{length, take, getD}
 use lib.Ieee.{Float}
 use lib.Ieee.Scale.{finite}
 use Rattle.light.specs.declared.Light.{Light}
-use Rattle.settings.proofs.Formed.{Term, term, matrix-not-finite, light-not-finite, mode-not-small}
+use Rattle.settings.specs.Clauses.{Term, term}
+use Rattle.settings.proofs.Formed.{matrix-not-finite, light-not-finite, mode-not-small}
 use Rattle.store.specs.declared.Slot.{Slot}
 use Rattle.store.specs.declared.Kind.{Kind}
 use Rattle.store.specs.declared.Kind.the-variants.{Texture, Model}
@@ -19,7 +20,8 @@ use Rattle.store.specs.Slots.{noSlot, told, slotsOk}
 use Rattle.state.specs.State.{mostPayload, begunOk, wellFormed}
 use Rattle.state.specs.declared.State.{State}
 use Rattle.state.proofs.Formed.{settings-not, begun-none, begun-some, begun-made, begun-not, textures-not, models-not}
-use Rattle.state.proofs.Slots.{Side, side, texture-zero, texture-large, Field, field, not-zero, slot-not-zero, sides-wrong, gap-wrong, twice-wrong, start-wrong, end-wrong}
+use Rattle.state.specs.Clauses.{Side, side, Field, field}
+use Rattle.state.proofs.Slots.{texture-zero, texture-large, not-zero, slot-not-zero, sides-wrong, gap-wrong, twice-wrong, start-wrong, end-wrong}
 
 -- ---- the command begun
 module _ (g w : ℕ) where

@@ -13,6 +13,7 @@ use Rattle.store.specs.declared.Kind.the-variants.{Texture}
 use Rattle.store.specs.Uploads.{total}
 use Rattle.store.specs.Slots.{areaOf, sidesOk, noSlot, told, fresh, zeroSlot, unused, heldOk, slotsOk}
 use Rattle.laws.proofs.Bools.{and-left, cond-both}
+use Rattle.state.specs.Clauses.{Side, wide, high, side, Field, number, width, height, start, field}
 use Rattle.store.proofs.Walk.{unused-is, ok-unheld, ok-no, fresh-not}
 
 -- ---- slots: something is wrong with the first of them, or behind it
@@ -142,14 +143,6 @@ module _ (k : Kind) (size : ℕ) where
       go false false e f ih = unheld-not at x xs e f
 
 -- ---- which sides are wrong, and which unused slots are not zero
-pub data Side : Type 0 where
-  wide : Side
-  high : Side
-
-abbrev pub side : Side → Slot → ℕ
-side wide x = x .width
-side high x = x .height
-
 pub texture-zero : (d : Side) (x : Slot) → side d x ≡ 0 → sidesOk Texture (x .width) (x .height) ≡ false
 texture-zero wide x e = rw e
 texture-zero high x e = rw e (simp and-false)
@@ -157,18 +150,6 @@ texture-zero high x e = rw e (simp and-false)
 pub texture-large : (d : Side) (x : Slot) → 1024 < side d x → sidesOk Texture (x .width) (x .height) ≡ false
 texture-large wide x h = rw (lt-leb (x .width) 1024 h) (simp and-false)
 texture-large high x h = rw (lt-leb (x .height) 1024 h) (simp and-false)
-
-pub data Field : Type 0 where
-  number : Field
-  width : Field
-  height : Field
-  start : Field
-
-abbrev pub field : Field → Slot → ℕ
-field number x = x .number
-field width x = x .width
-field height x = x .height
-field start x = x .start
 
 pub not-zero : (f : Field) (x : Slot) → (field f x ≡ 0 → ⊥) → zeroSlot x ≡ false
 not-zero number x h = rw (ne-eqb (x .number) 0 h) (simp and-false)
