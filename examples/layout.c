@@ -14,7 +14,7 @@
 
 #include "vpu.h"
 
-/* ---- sizes and offsets: examples/vpu.rs has the same ---- */
+/* ---- sizes and offsets: examples/ffi.rs has the same ---- */
 
 static_assert(sizeof(vpu_light) == 64, "a light");
 static_assert(offsetof(vpu_light, enabled) == 0, "enabled");

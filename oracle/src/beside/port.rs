@@ -1,42 +1,12 @@
 //! The port's C interface (archive `libvpu_c.a`), and a machine that lends it its memory.
 
+#[path = "../../../examples/ffi.rs"]
+mod ffi;
+
+pub use ffi::{Slot, State};
+
+use ffi::{vpu_feed, vpu_pixel, vpu_reset, Light};
 use vpu_oracle::judge::{Start, AREA};
-
-#[repr(C)]
-#[derive(Clone, Copy)]
-pub struct Light {
-    pub enabled: u8,
-    pub ambient: [f32; 3],
-    pub diffuse: [f32; 3],
-    pub specular: [f32; 3],
-    pub emission: [f32; 3],
-    pub position: [f32; 3],
-}
-
-#[repr(C)]
-#[derive(Clone, Copy)]
-pub struct Slot {
-    pub held: u8,
-    pub number: u32,
-    pub width: u32,
-    pub height: u32,
-    pub start: u32,
-}
-
-#[repr(C)]
-#[derive(Clone, Copy)]
-pub struct State {
-    pub matrices: [f32; 48],
-    pub shading_mode: u32,
-    pub lighting_enabled: u8,
-    pub lights: [Light; 8],
-    pub textures: [Slot; 64],
-    pub models: [Slot; 64],
-    pub opcode: u32,
-    pub gathered: u32,
-    pub wanted: u32,
-    pub status: u32,
-}
 
 /// What stands in the state before a reset gives one.
 const NO_LIGHT: Light = Light {
@@ -60,57 +30,6 @@ const NO_STATE: State = State {
     wanted: 0,
     status: 0,
 };
-
-#[repr(C)]
-struct Fed {
-    answer: u32,
-    state: State,
-}
-
-#[repr(C)]
-struct Colour {
-    answer: u32,
-    r: u8,
-    g: u8,
-    b: u8,
-    a: u8,
-}
-
-// `include/vpu.h`: a slice is a pointer and a length.
-extern "C" {
-    fn vpu_reset(
-        plane: *mut u8,
-        plane_length: usize,
-        depth: *mut i32,
-        depth_length: usize,
-        depth_f32: *mut f32,
-        depth_f32_length: usize,
-        command: *const u32,
-        command_length: usize,
-        textures: *mut u32,
-        textures_length: usize,
-        models: *mut u32,
-        models_length: usize,
-    ) -> Fed;
-    fn vpu_feed(
-        state: State,
-        words: *const u32,
-        words_length: usize,
-        plane: *mut u8,
-        plane_length: usize,
-        depth: *mut i32,
-        depth_length: usize,
-        depth_f32: *mut f32,
-        depth_f32_length: usize,
-        command: *mut u32,
-        command_length: usize,
-        textures: *mut u32,
-        textures_length: usize,
-        models: *mut u32,
-        models_length: usize,
-    ) -> Fed;
-    fn vpu_pixel(plane: *const u8, plane_length: usize, x: usize, y: usize) -> Colour;
-}
 
 impl Light {
     fn terms(&self) -> [[f32; 3]; 5] {
