@@ -180,13 +180,13 @@ fn print_machine(arguments: &Arguments) -> Result<(), String> {
     Ok(())
 }
 
-const HEAD: &str = "# How long it takes beside the original
-
-Made by `oracle/bench >docs/BENCH.md`. Port and original stand in one process and are fed the same words; times are processor time.
+const HEAD: &str = "Port and original stand in one process and are fed the same words; times are processor time.
 A pass is as many rounds as take at least 20 milliseconds, and a figure is the best pass. The sides take turns, pass by pass, and after
 each work plane, both depths and status have to be the same. What a work uploads or sets first, and clears of the depths between rounds, are not
 counted. All memory that a work uses has been touched before, so that the first use of a page is not counted; what the original allocates for
 each command is.
+
+This page is made by the program. `docs/SPEED.md` has what was changed for speed, what was tried, and which run this is.
 ";
 
 const ABOUT_WORKS: &str = "Triangles fill half their box, wherever on the screen, and each is nearer than those before it, so that it is seen: 100 in a
@@ -204,7 +204,8 @@ fn run() -> Result<(), String> {
     let arguments = Arguments::parse(&std::env::args().skip(1).collect::<Vec<_>>())?;
     arguments.expect(0, &["scenes", "out", "machine", "compilers", "passes", "only"])?;
     let mut port = Port::new();
-    println!("{HEAD}");
+    let passes = arguments.number("passes", 7)?;
+    println!("# How long it takes beside the original\n\nMade by `oracle/bench --passes {passes} >docs/BENCH.md`. {HEAD}");
     print_machine(&arguments)?;
     println!("{ABOUT_WORKS}");
     table(&mut port, &works::all(arguments.wanted("scenes")?)?, &arguments)?;
