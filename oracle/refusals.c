@@ -96,7 +96,7 @@ static bool same(const state *a, const state *b) {
 
 static int wrong = 0;
 
-// A line: what was lent, the answer, whether anything changed, and whether that is what document 01 says.
+// A line: what was lent, the answer, whether anything changed, and whether that is what rules 1.5 and 1.6 say.
 static void say(const char *what, uint32_t answer, bool changed, uint32_t expected) {
     bool right = answer == expected && changed == (expected == 0);
     printf("%s: %u, %s%s\n", what, (unsigned)answer, changed ? "changed" : "nothing changed", right ? "" : " WRONG");

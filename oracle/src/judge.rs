@@ -1,4 +1,4 @@
-//! The judge of a run: the original, with what document 01 refuses and the original does not (flat triangles beyond 8192,
+//! The judge of a run: the original, with what the rules refuse and the original does not (flat triangles beyond 8192,
 //! uploads without room) withheld from it. It frames the words itself and hands over whole commands; status, slots and the
 //! command area are its own. Every command's reason is held against what the original makes of the command.
 

@@ -1,4 +1,4 @@
-//! The uploads of one kind by document 01's store rule: a plain list, the last accepted one last.
+//! The uploads of one kind by the rules of the stores (docs/RULES.md, section 8): a plain list, the last accepted one last.
 
 use crate::reasons::Reason;
 

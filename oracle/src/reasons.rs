@@ -1,4 +1,4 @@
-//! Why a command is refused, by a plain reading of its words. The rules are document 01's; the reasons and the order in
+//! Why a command is refused, by a plain reading of its words. The rules are those of docs/RULES.md; the reasons and the order in
 //! which they are looked for are those of request A3, a transformed position that is not finite apart.
 
 use crate::kept::List;

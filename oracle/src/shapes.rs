@@ -26,7 +26,7 @@ pub const KINDS: [(&str, Kind); 7] = [
     ("textured-2", Kind::Textured(2)),
 ];
 
-/// How far a flat coordinate may be from 0: document 01.
+/// How far a flat coordinate may be from 0: rule 4.2 of docs/RULES.md.
 pub const FLAT_REACH: i32 = 8192;
 
 /// The words of command 12 that are coordinates.
@@ -116,7 +116,7 @@ pub fn flat_beyond(seed: u64, index: u64) -> [u32; 11] {
     words
 }
 
-/// The first coordinate out of reach, in payload order: document 01's rule for command 12.
+/// The first coordinate out of reach, in payload order: rule 4.2.
 pub fn out_of_reach(words: &[u32]) -> Option<usize> {
     let beyond = |at: &usize| (words[*at] as i32).unsigned_abs() > FLAT_REACH as u32;
     COORDINATES.into_iter().find(beyond)
@@ -301,7 +301,7 @@ impl Triangle {
         (first, (high.clamp(0.0, HEIGHT) as usize).max(first))
     }
 
-    /// Has the original draw it. What document 01 refuses is not drawn.
+    /// Has the original draw it. What rule 4.2 refuses is not drawn.
     pub fn draw(&self, vpu: &mut Vpu, kind: Kind, texture: &Texture) {
         match (self, kind) {
             (Self::Words(words), _) => {

@@ -1,4 +1,4 @@
-// Document 01's thirteen cases, malformed states clause by clause, lent lengths one off and pixel
+// The thirteen cases, malformed states clause by clause, lent lengths one off and pixel
 // reads, on the compiled calls: the table on standard input, whose head says how a line is read.
 // What is in `stdout` was written from the document.
 mod ask;

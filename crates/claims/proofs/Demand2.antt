@@ -1,4 +1,4 @@
--- Demand 2: inside the domain, plane, both depths and status after each call are those of document 000 as it reads. Word by word the plain machine of demand 3 is the original, since there every upload has room and every flat triangle is near. Assumes nothing.
+-- Demand 2: inside the domain, plane, both depths and status after each call are those of the original as it reads. Word by word the plain machine of demand 3 is the original, since there every upload has room and every flat triangle is near. Assumes nothing.
 use Prim.Native.Nat.{ℕ, _-_, _/_, _%_}
 use mathlib.Core.Path.{_≡_, refl, sym, ap, _∙_}
 use mathlib.Core.Bool.{Bool, true, false, cond, _&&_}

@@ -1,4 +1,4 @@
--- The four idle versions meet no contract: each against the claim that document 01 names. Assumes nothing.
+-- The four idle versions meet no contract: each against the claim that docs/CLAIMS.md names. Assumes nothing.
 use Prim.Native.Nat.{ℕ, _≤_}
 use mathlib.Core.Path.{_≡_, refl, sym, ap, _∙_}
 use mathlib.Core.Option.{Option, none, some}

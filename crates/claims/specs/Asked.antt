@@ -1,4 +1,4 @@
--- Demand 3, a draw gets the last accepted upload of its kind under that number, and is refused for want of one exactly if there is none, and "no room" by the store rule: what these say of a history. Definitions only.
+-- Demand 3, a draw gets the last accepted upload of its kind under that number, and is refused for want of one exactly if there is none, and there is no room by the store rule: what these say of a history. Definitions only.
 use Prim.Native.Nat.{ℕ, zero, suc, _*_, _≤_, _<_}
 use mathlib.Core.Path.{_≡_}
 use mathlib.Core.Bool.{Bool}
@@ -21,7 +21,7 @@ use Rattle.execute.specs.Paints.{Paint, stroked}
 use Rattle.execute.specs.Commands.{Look, Load, Told, tells, told}
 use Rattle.claims.specs.Plain.{Past, history}
 
--- ---- "the last accepted upload of its kind under that number"
+-- ---- the last accepted upload of a kind under a number
 -- none of these has the number n
 pub data Apart (n : ℕ) : List Whole → Type 0 where
   none-left : Apart n []
@@ -42,10 +42,10 @@ Finds n h (some u) = Last n h u
 
 -- ---- what a textured triangle tells: 18, or 19 if it has normals, with the words p. `found`: what the history has under its number
 pub record Draws (found : Option Whole) (s : Settings) (p : List ℕ) (normal : Bool) (t : Told) : Type 0 where
-  -- "refused for want of one exactly if there is none"
+  -- refused for want of one exactly if there is none
   pub wanting : found ≡ none → t .verdict ≡ Refused NotHeld 0
   pub only : (i : ℕ) → t .verdict ≡ Refused NotHeld i → found ≡ none
-  -- "gets the last accepted upload"
+  -- it gets the last accepted upload
   pub gets : t .paints ≡ map stroked (texturedStrokes s p normal found)
 
 -- ---- 1B: a model is drawn as so many 19s
@@ -66,13 +66,13 @@ allPainted tell i (suc n) = tell i .paints ++ allPainted tell (suc i) n
 abbrev pub recordTold : Look → Settings → List ℕ → Whole → ℕ → Told
 recordTold look s p u i = told look s 0x19 (recordAt (wordAt p 1) (u .words) i)
 
--- what 1B with the words p tells, where the model u is held under its number. "In a model draw a refused triangle sets bit 3 and the next one is still drawn"
+-- rule 3.15: what 1B with the words p says, where the model u is held under its number
 pub record Records (look : Look) (s : Settings) (p : List ℕ) (u : Whole) (t : Told) : Type 0 where
   pub whole : (i : ℕ) → i < u .wide → length (recordAt (wordAt p 1) (u .words) i) ≡ 29
   pub is : t ≡ tells (firstRefused (recordTold look s p u) 0 (u .wide)) s (allPainted (recordTold look s p u) 0 (u .wide))
 
--- ---- "no room"
--- "01's store rule over that history", of an upload
+-- ---- no room
+-- rule 8.5 over the history, of an upload
 abbrev pub ruled : (Kind → ℕ) → Past → Load → Room
 ruled size h l = room (size (l .kind)) (cards (live (history h (l .kind)))) (l .whole .number) (length (l .whole .words))
 

@@ -1,4 +1,4 @@
--- Document 01, "Lent memory and call answers", as one record for each call: every answer with its case, both ways, and what it leaves. `proofs/Calls.antt` shows them. Definitions only.
+-- Rule 1.5 as one record for each call: every answer with its case, both ways, and what it leaves. `proofs/Calls.antt` shows them. Definitions only.
 use Prim.Native.Nat.{ℕ, _+_, _*_, _≤_, _<_}
 use mathlib.Core.Path.{_≡_}
 use mathlib.Core.Bool.{true, false}
@@ -15,7 +15,7 @@ use Rattle.vpu.specs.Calls.{Outcome, Lengths, cleared}
 
 -- P, D, F, C, T and M: what is lent
 module _ (P : List ℕ) (D : List ℤ) (F : List Float) (C T M : List ℕ) where
-  -- "plane 307,200 bytes; integer depth and float depth 76,800 numbers each; .." hold of it
+  -- rule 1.4 holds of it
   abbrev pub Right : Type 0
   Right = Lengths (length P) (length D) (length F) (length C) (length T) (length M)
 
@@ -24,15 +24,15 @@ module _ (P : List ℕ) (D : List ℤ) (F : List Float) (C T M : List ℕ) where
     -- 1: a lent length is wrong, exactly
     pub one : o .answer ≡ 1 → Right → ⊥
     pub one-if : (Right → ⊥) → o .answer ≡ 1
-    -- 2: malformed state, exactly, and "1 is tested before 2"
+    -- 2: malformed state, exactly, if no length is wrong
     pub two : o .answer ≡ 2 → Right × (wellFormed s (length T) (length M) ≡ false)
     pub two-if : Right → wellFormed s (length T) (length M) ≡ false → o .answer ≡ 2
     -- 0: done, exactly
     pub zero : o .answer ≡ 0 → Right × (wellFormed s (length T) (length M) ≡ true)
     pub zero-if : Right → wellFormed s (length T) (length M) ≡ true → o .answer ≡ 0
-    -- "as the rules say"
+    -- what the words leave
     pub done : o .answer ≡ 0 → o .machine ≡ run asBox (machine s P D F C T M) ws
-    -- "state as given", "all memory untouched"
+    -- rule 1.6: the state as given, and all memory as it was
     pub refused : (o .answer ≡ 0 → ⊥) → o .machine ≡ machine s P D F C T M
     pub known : o .answer ≤ 2
 
@@ -43,20 +43,20 @@ module _ (P : List ℕ) (D : List ℤ) (F : List Float) (C T M : List ℕ) where
     pub zero : o .answer ≡ 0 → Right
     pub zero-if : Right → o .answer ≡ 0
     pub done : o .answer ≡ 0 → o .machine ≡ cleared P D F C T M
-    -- "reset takes no state and returns the fresh one", "all memory untouched"
+    -- rule 1.6: the fresh state, and all memory as it was
     pub refused : (o .answer ≡ 0 → ⊥) → o .machine ≡ machine fresh P D F C T M
     pub known : o .answer ≤ 1
 
 -- a is what a pixel is read as
 pub record Pixel (P : List ℕ) (x y : ℕ) (a : Answered) : Type 0 where
-  -- "1", exactly, and then "four zeros"
+  -- 1: the length is wrong, exactly, and then four zeros
   pub one : a .number ≡ 1 → length P ≡ planeBytes → ⊥
   pub one-if : (length P ≡ planeBytes → ⊥) → a ≡ record { number = 1; bytes = nothing }
   pub zero : a .number ≡ 0 → length P ≡ planeBytes
   pub zero-if : length P ≡ planeBytes → a .number ≡ 0
-  -- "With a right plane length, a pixel with x ≥ 320 or y ≥ 240 answers 0 and four zeros"
+  -- rule 1.7, off the screen
   pub right-of : length P ≡ planeBytes → width ≤ x → a ≡ record { number = 0; bytes = nothing }
   pub below : length P ≡ planeBytes → height ≤ y → a ≡ record { number = 0; bytes = nothing }
-  -- "four colour bytes"
+  -- rule 1.7, on it
   pub on : length P ≡ planeBytes → x < width → y < height → a ≡ record { number = 0; bytes = fourFrom P ((y * width + x) * 4) }
   pub known : a .number ≤ 1

@@ -1,4 +1,4 @@
--- Document 01, "Domain of demand 2: accepted calls, flat coordinates from -8192 to 8192, no "no room"": which words after a reset are in it. Definitions only.
+-- Rule 10.2, the domain of demand 2: which words after a reset are in it. Definitions only.
 use Prim.Native.Nat.{ℕ, _≤_}
 use mathlib.Core.Path.{_≡_}
 use mathlib.Core.Option.{some}
@@ -15,16 +15,16 @@ use Rattle.vpu.specs.Calls.{Small}
 use Rattle.claims.specs.Plain.{Past, asPast, plainStart}
 use Rattle.claims.specs.Runs.{Call, feeds, own}
 
--- "from -8192 to 8192", of these words of a payload
+-- from -8192 to 8192, of these words of a payload
 abbrev pub Near : List ℕ → List ℕ → Type 0
 Near p [] = Unit {0}
 Near p (k ∷ ks) = (natAbs (signedAt p k) ≤ 8192) × Near p ks
 
 -- a command whose payload is complete, with what was kept before it
 pub record Within (size : Kind → ℕ) (c : Control Past) : Type 0 where
-  -- "flat coordinates": of command 12 with its eleven words, x and y of each corner
+  -- flat coordinates: of command 12 with its eleven words, x and y of each corner
   pub near : c .opcode ≡ 0x12 → length (c .box .payload) ≡ 11 → Near (c .box .payload) (0 ∷ 1 ∷ 3 ∷ 4 ∷ 6 ∷ 7 ∷ [])
-  -- no "no room": an upload that passes its checks has room, by 01's store rule over the history
+  -- an upload that passes its checks has room, by rule 8.5 over the history
   pub fits : (l : Load) → told (asPast size .look (c .box)) (c .settings) (c .opcode) (c .box .payload) .load ≡ some l → asPast size .room (c .box) l ≡ Fits
 
 -- a word that completes a command completes one of these. (A header with count 0 has a command run without words: always refused.)
@@ -39,7 +39,7 @@ AllFine size m (w ∷ ws) = Fine size m w × AllFine size (wordOn (asPast size) 
 abbrev pub InDomain : (Kind → ℕ) → List ℕ → Type 0
 InDomain size ws = Small ws × AllFine size plainStart ws
 
--- "accepted calls": each feeds the run's own state and buffers
+-- accepted calls: each feeds the run's own state and buffers
 abbrev pub calls : List (List ℕ) → List Call
 calls wss = map (feeds own) wss
 

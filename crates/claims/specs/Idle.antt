@@ -1,4 +1,4 @@
--- Document 01, "What the contracts have to say": the four idle versions, each as a way that any function may behave. `proofs/Idle.antt` shows that none meets its contract. Definitions only.
+-- The four idle versions, each as a way that any function may behave: docs/CLAIMS.md. `proofs/Idle.antt` shows that none meets its contract. Definitions only.
 use Prim.Native.Nat.{ℕ, _*_, _/_, _%_}
 use mathlib.Core.Path.{_≡_}
 use mathlib.Core.Bool.{cond}
@@ -32,7 +32,7 @@ Feeder = State → List ℕ → List ℕ → List ℤ → List Float → List �
 abbrev pub Meets : Feeder → Type 0
 Meets f = (s : State) (ws : List ℕ) (P : List ℕ) (D : List ℤ) (F : List Float) (C T M : List ℕ) → f s ws P D F C T M ≡ feed s ws P D F C T M
 
--- "Always answering 1 or 2": never 0
+-- always answering 1 or 2: never 0
 abbrev pub NeverDone : Feeder → Type 0
 NeverDone f = (s : State) (ws : List ℕ) (P : List ℕ) (D : List ℤ) (F : List Float) (C T M : List ℕ) → f s ws P D F C T M .answer ≡ 0 → ⊥
 
@@ -43,17 +43,17 @@ NeverReset f = (P : List ℕ) (D : List ℤ) (F : List Float) (C T M : List ℕ)
 abbrev pub NeverRead : (List ℕ → ℕ → ℕ → Answered) → Type 0
 NeverRead f = (P : List ℕ) (x y : ℕ) → f P x y .number ≡ 0 → ⊥
 
--- "One constant plane", after whatever is answered 0
+-- one constant plane, after whatever is answered 0
 abbrev pub OnePlane : List ℕ → Feeder → Type 0
 OnePlane Q f =
     (s : State) (ws : List ℕ) (P : List ℕ) (D : List ℤ) (F : List Float) (C T M : List ℕ) → f s ws P D F C T M .answer ≡ 0 → f s ws P D F C T M .machine .picture .plane ≡ Q
 
--- "Changing nothing", whatever is answered 0
+-- changing nothing, whatever is answered 0
 abbrev pub NothingChanged : Feeder → Type 0
 NothingChanged f =
     (s : State) (ws : List ℕ) (P : List ℕ) (D : List ℤ) (F : List Float) (C T M : List ℕ) → f s ws P D F C T M .answer ≡ 0 → f s ws P D F C T M .machine ≡ machine s P D F C T M
 
--- ---- "Storing the first upload and pretending for later ones": after a reset answered 0 and words then fed, the first two uploads, of one kind and number
+-- ---- storing the first upload and pretending for later ones: after a reset answered 0 and words then fed, the first two uploads, of one kind and number
 -- no command is begun, and nothing is held yet
 pub record Blank {X : Type 0} (K : Keep X) (c : Control X) : Type 0 where
   pub header-next : c .wanted ≡ 0

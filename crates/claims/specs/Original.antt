@@ -1,4 +1,4 @@
--- Document 000 as it reads: a `Vpu` with its maps of uploads, from `new` and `push` on. No slot, no store, no history, no room, no bound on coordinates.
+-- The original as it reads (rule 10.1): a `Vpu` with its maps of uploads, from `new` and `push` on. No slot, no store, no history, no room, no bound on coordinates.
 -- What its arms do is shared with the port: `told`, and paints. That these are the Rust's is shown by runs and not by proof. Definitions only.
 use Prim.Native.Nat.{ℕ, _+_, _-_, _*_, _/_, _%_}
 use mathlib.Core.Bool.{cond, _&&_}

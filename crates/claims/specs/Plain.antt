@@ -1,4 +1,4 @@
--- The plain machine of demand 3: it runs the same commands by the same rules, "but keeps the whole history of uploads and moves none". Definitions only.
+-- The plain machine of demand 3 (rule 10.3): it runs the same commands by the same rules, keeps the whole history of uploads and moves none. Definitions only.
 use Prim.Native.Nat.{ℕ}
 use mathlib.Core.List.{List, [], _∷_, _++_}
 use lib.ListN.{length, replicate}
@@ -13,7 +13,7 @@ use Rattle.store.specs.Uploads.{Whole, cards, find, live, room}
 use Rattle.execute.specs.Paints.{picture}
 use Rattle.execute.specs.Control.{Keep, Control, Seen}
 
--- "the whole history of uploads": every accepted one, the newest first; and the payload of the command begun
+-- the whole history of uploads: every accepted one, the newest first; and the payload of the command begun
 pub record Past : Type 0 where
   pub textures : List Whole
   pub models : List Whole
@@ -35,9 +35,9 @@ accepted h Model u = past (h .textures) (u ∷ h .models) (h .payload)
 -- `size k` is the length of the store lent for the kind k
 abbrev pub asPast : (Kind → ℕ) → Keep Past
 asPast size = record {
-  -- "the last accepted upload of its kind under that number", or none
+  -- the last accepted upload of the kind under the number, or none
   look = λ h k n. find n (history h k);
-  -- "01's store rule over that history": of each number its last upload counts
+  -- rule 8.5 over that history: of each number its last upload counts
   room = λ h l. room (size (l .kind)) (cards (live (history h (l .kind)))) (l .whole .number) (length (l .whole .words));
   put = λ h l. accepted h (l .kind) (l .whole);
   payload = λ h. h .payload;
@@ -45,7 +45,7 @@ asPast size = record {
   clear = λ h. past (h .textures) (h .models) [];
 }
 
--- "a reset answered 0 empties it": the fresh settings, status 0, no command begun, and no history
+-- what a reset answered 0 leaves: the fresh settings, status 0, no command begun, and no history
 abbrev pub plainFresh : Control Past
 plainFresh = record { settings = settings.fresh; notes = noNotes; opcode = 0; wanted = 0; box = past [] [] [] }
 

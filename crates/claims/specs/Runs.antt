@@ -1,4 +1,4 @@
--- A run of calls, of demand 3: "Reset, then send words in calls cut anywhere, handing on each state as returned and the same buffers unaltered, store lengths fixed"; and the plain machine over the same calls. Definitions only.
+-- A run of calls (rule 10.4), of demand 3, and the plain machine over the same calls. Definitions only.
 use Prim.Native.Nat.{ℕ}
 use mathlib.Core.Path.{_≡_}
 use mathlib.Core.Bool.{Bool, true, cond}
@@ -39,7 +39,7 @@ mixed o a b =
     (cond (o .depthF) (a .picture .depthF) (b .picture .depthF)) (cond (o .area) (a .control .box .area) (b .control .box .area))
     (cond (o .textures) (a .control .box .textures .words) (b .control .box .textures .words)) (cond (o .models) (a .control .box .models .words) (b .control .box .models .words))
 
--- "each state as returned and the same buffers"; or any other state and any other buffers, some of which may be the run's own
+-- the state as returned and the same buffers; or any other state and any other buffers, some of which may be the run's own
 pub data Given : Type 0 where
   own : Given
   other : Own → Machine → Given
@@ -61,7 +61,7 @@ outcomeOf m (feeds g ws) = feedOn (lent m g) ws
 outcomeOf m (resets g) = resetOn (lent m g)
 
 -- ---- a run
--- "the run goes on from the state before it": with its own buffers as the refused call left them
+-- rule 10.4: after a refused call the run goes on from the state before it, with its own buffers as the refused call left them
 abbrev pub goesOn : Machine → Given → Machine → Machine
 goesOn m own x = mixed (record { plane = true; depth = true; depthF = true; area = true; textures = true; models = true }) x m
 goesOn m (other o y) x = mixed o x m
@@ -85,12 +85,12 @@ AllAllowed m [] = Unit {0}
 AllAllowed m (c ∷ cs) = Allowed m c × AllAllowed (after m c) cs
 
 -- ---- the plain machine, over the same calls
--- "store lengths fixed"
+-- the lengths of the stores, which stay as they are in a run
 abbrev pub sizes : List ℕ → List ℕ → Kind → ℕ
 sizes T M Texture = length T
 sizes T M Model = length M
 
--- "A refused call adds no history .. a reset answered 0 empties it"
+-- rule 10.4: a refused call adds no history, and a reset answered 0 empties it
 unfoldable pub plainAfter : (Kind → ℕ) → Seen Past → Call → Seen Past
 plainAfter size n (feeds own ws) = run (asPast size) n ws
 plainAfter size n (resets own) = plainStart

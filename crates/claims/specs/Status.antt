@@ -1,4 +1,4 @@
--- Document 01, "Status bits" and "Every other refused command .. changes status only": what a status keeps, and what a refused command leaves. Definitions only.
+-- What a status keeps (rule 1.14), and what a refused command leaves (rule 3.3). Definitions only.
 use Prim.Native.Nat.{ℕ, _/_, _%_, _^_}
 use mathlib.Core.Path.{_≡_}
 use lib.Bits.{bitOr}
@@ -8,7 +8,7 @@ use Rattle.verdict.specs.declared.Verdict.{Verdict}
 use Rattle.execute.specs.Commands.{Told, told}
 use Rattle.execute.specs.Control.{Keep, Control, verdictOf, execute}
 
--- "No command clears them", and "all other bits as given". Bit k of n is n / 2 ^ k % 2
+-- rule 1.14: no bit is cleared, and all but three stay as given. Bit k of n is n / 2 ^ k % 2
 pub record Stays (before after : ℕ) : Type 0 where
   pub kept : (k : ℕ) → before / 2 ^ k % 2 ≡ 1 → after / 2 ^ k % 2 ≡ 1
   pub others : (k : ℕ) → (k ≡ 2 → ⊥) → (k ≡ 3 → ⊥) → (k ≡ 6 → ⊥) → after / 2 ^ k % 2 ≡ before / 2 ^ k % 2

@@ -1,4 +1,4 @@
--- Document 01, "Numbers to be proved (one table)", as one type: a field for each of the thirteen cases, about the definitions. `proofs/Table.antt` proves it. Definitions only.
+-- The thirteen cases (section 9 of docs/RULES.md) as one type: a field for each, about the definitions. `proofs/Table.antt` proves it. Definitions only.
 use Prim.Native.Nat.{ℕ, zero, suc, _+_, _*_, _≤_}
 use mathlib.Core.Path.{_≡_}
 use mathlib.Core.Bool.{Bool, cond, not, _&&_}
@@ -33,7 +33,7 @@ pub record InStore (R : ℕ → Type 0) (ws : List ℕ) (Q : Machine → Type 0)
   pub holds : (P : List ℕ) (D : List ℤ) (F : List Float) (C T M : List ℕ) → reset P D F C T M .answer ≡ 0 → R (length T)
       → (feedOn (reset P D F C T M .machine) ws .answer ≡ 0) × Q (feedOn (reset P D F C T M .machine) ws .machine)
 
--- "after reset", with stores of any lengths
+-- after a reset, with stores of any lengths
 abbrev pub AfterReset : List ℕ → (Machine → Type 0) → Type 0
 AfterReset = InStore (λ n. Unit {0})
 
@@ -45,7 +45,7 @@ pub record AnyTime (ws : List ℕ) (Q : Machine → Machine → Type 0) : Type 0
 abbrev pub statusOf : Machine → ℕ
 statusOf m = m .control .notes .status
 
--- "next is a header": no command is begun
+-- the next word is a header: no command is begun
 pub record HeaderNext (m : Machine) : Type 0 where
   pub opcode : m .control .opcode ≡ 0
   pub gathered : m .control .box .gathered ≡ 0
@@ -76,7 +76,7 @@ drawn plane k = not (eqb (getD plane (k * 4 + 3) 0) 0 && (eqb (getD plane (k * 4
 abbrev pub clear : ℕ → ℕ → ℕ → List ℕ
 clear flags rgba unused = 0x0400_0003 ∷ flags ∷ rgba ∷ unused ∷ []
 
--- 12: "Flat (0,0), (4,0), (0,4)", white at full shade, with these depths
+-- 12 on (0,0), (4,0), (0,4), white at full shade, with these depths
 abbrev pub flat : ℕ → ℕ → ℕ → List ℕ
 flat z0 z1 z2 = 0x1200_000b ∷ 0 ∷ 0 ∷ z0 ∷ 4 ∷ 0 ∷ z1 ∷ 0 ∷ 4 ∷ z2 ∷ 0xff_ffff ∷ 255 ∷ []
 
@@ -88,48 +88,48 @@ utmost = 8192 ∷ 4294959104 ∷ 0 ∷ 8192 ∷ 8192 ∷ 2147483648 ∷ 42949591
 abbrev pub Beyond : ℕ → Type 0
 Beyond k = AfterReset (0x1200_000b ∷ set utmost k 8193) (λ m. statusOf m ≡ 8) × AfterReset (0x1200_000b ∷ set utmost k 4294959103) (λ m. statusOf m ≡ 8)
 
--- "two 2 × 2 textures, the first sent again"
+-- two textures of 2 by 2, the first sent again
 abbrev pub three : List ℕ
 three =
     0x1700_0005 ∷ 1 ∷ 2 ∷ 2 ∷ 11 ∷ 12 ∷ 0x1700_0005 ∷ 2 ∷ 2 ∷ 2 ∷ 21 ∷ 22 ∷ 0x1700_0005 ∷ 1 ∷ 2 ∷ 2 ∷ 31 ∷ 32 ∷ []
 
 -- ---- the table
 pub record Thirteen : Type 0 where
-  -- "00000005: status 4. 04000000: status 8, next is a header."
+  -- rule 9.1
   pub case-1 : AfterReset (0x0000_0005 ∷ []) (λ m. statusOf m ≡ 4) × AfterReset (0x0400_0000 ∷ []) (λ m. (statusOf m ≡ 8) × HeaderNext m)
-  -- "04080004: status 8, next is a header. 17080003: wants 524,291 words."
+  -- rule 9.2
   pub case-2 : AfterReset (0x0408_0004 ∷ []) (λ m. (statusOf m ≡ 8) × HeaderNext m)
       × AfterReset (0x1708_0003 ∷ []) (λ m. (statusOf m ≡ 0) × (m .control .opcode ≡ 0x17) × (m .control .wanted ≡ 524291))
-  -- "Clear, flags 4: status 8, nothing cleared. Flags 7: all cleared, status 8."
+  -- rule 9.3
   pub case-3 : (rgba u : ℕ)
       → AfterReset (clear 4 rgba u) (λ m. statusOf m ≡ 8)
       × AnyTime (clear 4 rgba u) (λ m n. (statusOf n ≡ bitOr (statusOf m) 8) × (n .picture ≡ m .picture))
       × AfterReset (clear 7 rgba u) (λ m. statusOf m ≡ 8)
       × AnyTime (clear 7 rgba u) (λ m n. (statusOf n ≡ bitOr (statusOf m) 8) × (n .picture ≡ picture (mapAt (paint (rgbaOf rgba)) (m .picture .plane)) (farInts pixels) (farFloats pixels)))
-  -- "Clear to 808080FF: (0,0) is 132,132,132,255; (3,0) is 123,123,123,255."
+  -- rule 9.4
   pub case-4 : (u : ℕ) → AnyTime (clear 1 0x8080_80ff u) (λ m n. (pixelIn n 0 0 ≡ colour 132 132 132 255) × (pixelIn n 3 0 ≡ colour 123 123 123 255))
-  -- "Channel 1: 8 at (2,2), 0 at (2,0). Channel 254: 255 at (2,3), 247 at (0,3)."
+  -- rule 9.5
   pub case-5 : (ditherOf 1 (thresholdAt 2 2) ≡ 8) × (ditherOf 1 (thresholdAt 2 0) ≡ 0) × (ditherOf 254 (thresholdAt 2 3) ≡ 255) × (ditherOf 254 (thresholdAt 0 3) ≡ 247)
-  -- "Flat (0,0), (4,0), (0,4), all depth 10, after reset: 15 pixels, (2,2) among them, (3,2) not."
+  -- rule 9.6
   pub case-6 : AfterReset (flat 10 10 10) (λ m. (countOf (drawn (m .picture .plane)) pixels ≡ 15) × (pixelIn m 2 2 ≡ colour 255 255 255 255) × (pixelIn m 3 2 ≡ colour 0 0 0 0))
-  -- "Same corners, depths 0, 3, -3: depth at (2,0) is 1, at (0,1) 0, at (0,2) -1."
+  -- rule 9.7
   pub case-7 : AfterReset (flat 0 3 4294967293) (λ m. (depthIn m 2 0 ≡ pos 1) × (depthIn m 0 1 ≡ pos 0) × (depthIn m 0 2 ≡ negsuc 0))
-  -- "All depths 2147483647: nothing drawn after reset."
+  -- rule 9.8
   pub case-8 : AfterReset (flat 2147483647 2147483647 2147483647) (λ m. m .picture ≡ plainStart .picture)
-  -- "Channel 128, shade 128: 64 before dither. Shade 300 counts as 255", whatever the corners
+  -- rule 9.9, whatever the corners
   pub case-9 : (a b c d e f g h i rgb : ℕ)
       → (triOf (a ∷ b ∷ c ∷ d ∷ e ∷ f ∷ g ∷ h ∷ i ∷ 0x80_8080 ∷ 128 ∷ []) .color ≡ record { r = 64; g = 64; b = 64; a = 255 })
       × (triOf (a ∷ b ∷ c ∷ d ∷ e ∷ f ∷ g ∷ h ∷ i ∷ rgb ∷ 300 ∷ []) ≡ triOf (a ∷ b ∷ c ∷ d ∷ e ∷ f ∷ g ∷ h ∷ i ∷ rgb ∷ 255 ∷ []))
-  -- "A coordinate of 8192 is taken; 8193 gives status 8", each of the six and on either side. Taken: it is drawn, here to the first pixel and to the last
+  -- rule 9.10, each of the six and on either side. Taken: it is drawn, here to the first pixel and to the last
   pub case-10 : AfterReset (0x1200_000b ∷ utmost) (λ m. (statusOf m ≡ 0) × (pixelIn m 0 0 ≡ colour 255 255 255 255) × (pixelIn m 319 239 ≡ colour 255 255 255 255)) × Beyond 0 × Beyond 1 × Beyond 3 × Beyond 4 × Beyond 6 × Beyond 7
-  -- "1 × 1 texture, word F0A51234: texel 255, 0, 170, 85": as it is held, and read, wherever it is sampled
+  -- rule 9.11: as it is held, and read, wherever it is sampled
   pub case-11 : (n : ℕ)
       → InStore (λ size. 1 ≤ size) (0x1700_0004 ∷ n ∷ 1 ∷ 1 ∷ 0xf0a5_1234 ∷ []) (λ m. (statusOf m ≡ 0) × (asBox .look (m .control .box) Texture n ≡ some (wholeOf n 1 1 (0xf0a5_1234 ∷ []))))
       × ((u v b : Corners) → texelOf (0xf0a5_1234 ∷ []) (record { width = 1; height = 1; u = u; v = v }) b ≡ record { r = 255; g = 0; b = 170; a = 85 })
-  -- "Store of 4 words, two 2 × 2 textures, the first sent again: status 64. Store of 6: accepted, now last."
+  -- rule 9.12
   pub case-12 : InStore (λ size. size ≡ 4) three
       (λ m. (statusOf m ≡ 64) × (view Texture (m .control .box .textures .slots) (m .control .box .textures .words) ≡ wholeOf 1 2 2 (11 ∷ 12 ∷ []) ∷ wholeOf 2 2 2 (21 ∷ 22 ∷ []) ∷ []))
       × InStore (λ size. size ≡ 6) three
       (λ m. (statusOf m ≡ 0) × (view Texture (m .control .box .textures .slots) (m .control .box .textures .words) ≡ wholeOf 2 2 2 (21 ∷ 22 ∷ []) ∷ wholeOf 1 2 2 (31 ∷ 32 ∷ []) ∷ []))
-  -- "Root of 2.0 is 3FB504F3; root of 2^-149 is 1A3504F3."
+  -- rule 9.13
   pub case-13 : (root (ofBits binary32 0x4000_0000) ≡ ofBits binary32 0x3fb5_04f3) × (root (ofBits binary32 1) ≡ ofBits binary32 0x1a35_04f3)

@@ -1,4 +1,4 @@
--- Clipping of polygons, as lists of vertices of any kind. Document 000's `clip_polygon`, the loop over six planes and the fan of `draw_transformed_triangle_impl`.
+-- Clipping of polygons, as lists of vertices of any kind. The original's `clip_polygon`, the loop over six planes and the fan of `draw_transformed_triangle_impl`.
 -- Definitions only.
 use Prim.Native.Nat.{ℕ, zero, suc, _+_}
 use mathlib.Core.Bool.{Bool, true, cond, _&&_}
@@ -39,7 +39,7 @@ unfoldable pub lastOf : {X : Type 0} → X → List X → X
 lastOf p [] = p
 lastOf p (c ∷ cs) = lastOf c cs
 
--- `clip_polygon`: the sides in order, the first from the last vertex; of no vertices none
+-- rule 5.6, `clip_polygon`: the sides in order, the first from the last vertex; of no vertices none
 unfoldable pub clip : {X : Type 0} → Kind X → ℕ → List X → List X
 clip k plane [] = []
 clip k plane (v ∷ vs) = sidesFrom k plane (lastOf v vs) (v ∷ vs)
@@ -58,7 +58,7 @@ fanFrom a [] = []
 fanFrom a (b ∷ []) = []
 fanFrom a (b ∷ (c ∷ cs)) = (a ∷ b ∷ c ∷ []) ∷ fanFrom a (c ∷ cs)
 
--- the triangles that are drawn of a polygon
+-- rule 5.7: the triangles that are drawn of a polygon
 unfoldable pub fan : {X : Type 0} → List X → List (List X)
 fan [] = []
 fan (a ∷ vs) = fanFrom a vs

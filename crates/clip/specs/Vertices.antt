@@ -1,4 +1,4 @@
--- The vertex that is clipped and the polygon by value. Document 000's `ClipVertex`, `clip_distance` and what `clip_polygon` pushes at a crossing.
+-- The vertex that is clipped and the polygon by value. The original's `ClipVertex`, `clip_distance` and what `clip_polygon` pushes at a crossing.
 -- Definitions only.
 use Prim.Native.Nat.{ℕ, _≤_}
 use mathlib.Core.Path.{_≡_}
@@ -12,7 +12,7 @@ use Rattle.clip.specs.declared.vertex.ClipVertex.{ClipVertex}
 use Rattle.clip.specs.declared.polygon.Polygon.{Polygon}
 use Rattle.clip.specs.Polygons.{Kind}
 
--- `clip_distance`, of a position
+-- rule 5.6, `clip_distance`, of a position
 unfoldable pub distanceOf : ℕ → List Float → Float
 distanceOf plane position =
     let x = at position 0 in
@@ -57,7 +57,7 @@ full = record { distance = λ plane v. distanceOf plane (v .position); between =
 abbrev pub noVertex : ClipVertex
 noVertex = record { position = []; «view_position» = []; normal = []; color = []; uv = [] }
 
--- "so six planes need 28"
+-- rule 5.6: the most vertices. A plane makes at most 3 n / 2 of n vertices, since rounding can let a polygon cross it more than twice: six planes make 28 of three
 abbrev pub room : ℕ
 room = 28
 
@@ -65,7 +65,7 @@ room = 28
 abbrev pub cuttable : ℕ
 cuttable = 19
 
--- "arrays of 28 with a count": the polygon is its first `count` vertices
+-- the polygon is its first `count` vertices
 abbrev pub of : Polygon → List ClipVertex
 of p = take (p .count) (p .vertices)
 

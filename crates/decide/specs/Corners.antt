@@ -1,4 +1,4 @@
--- From the words of a float triangle to its corners. One vertex is its position, then its normal and its texture coordinates where the command has them, then its colour: document 000, `draw_transformed_triangle_impl`, `draw_textured_triangle`, `draw_textured_lit_triangle`. Definitions only.
+-- From the words of a float triangle to its corners. One vertex is its position, then its normal and its texture coordinates where the command has them, then its colour: the original, `draw_transformed_triangle_impl`, `draw_textured_triangle`, `draw_textured_lit_triangle`. Definitions only.
 --     has_normal   16 and 19
 --     textured     18 and 19, whose first two words are the texture's number and the mode
 use Prim.Native.Nat.{ℕ, _+_, _*_}
@@ -17,7 +17,7 @@ use Rattle.clip.specs.declared.vertex.ClipVertex.{ClipVertex}
 use Rattle.clip.specs.Vertices.{noVertex}
 use Rattle.payload.specs.Words.{wordAt, floatAt, threeAt, colorOf}
 
--- ---- where the words stand
+-- ---- rule 5.1: where the words are
 -- how many words a vertex has before its texture coordinates, and before its colour; the colour is its last
 abbrev pub uvAt : Bool → ℕ
 uvAt normal = cond normal 6 3
@@ -32,7 +32,7 @@ strideOf normal textured = colorAt normal textured + 1
 abbrev pub firstOf : Bool → Bool → ℕ → ℕ
 firstOf normal textured i = cond textured 2 0 + i * strideOf normal textured
 
--- "14, 12 words and 16, 21 words"; "18, 20 words and 19, 29 words"
+-- rule 3.2: how many words each of the four has
 abbrev pub wordsOf : Bool → Bool → ℕ
 wordsOf normal textured = firstOf normal textured 3
 
@@ -41,7 +41,7 @@ wordsOf normal textured = firstOf normal textured 3
 abbrev pub inputOf : List ℕ → ℕ → List Float
 inputOf p o = floatAt p o ∷ floatAt p (o + 1) ∷ floatAt p (o + 2) ∷ one32 ∷ []
 
--- `view`, and `position`: the model matrix, the view's, the projection's
+-- rule 5.2, `view`, and `position`: the model matrix, the view's, the projection's
 unfoldable pub viewOf : List Float → List Float → List Float
 viewOf m pos = transformOf m 16 (transformOf m 0 pos)
 
@@ -78,7 +78,7 @@ cornerOf p o normal textured m matrix =
 abbrev pub corner : List ClipVertex → ℕ → ClipVertex
 corner tri i = getD tri i noVertex
 
--- ---- the normal matrix: of 16 and 19 the inverse of the model-view's, transposed; 14 and 18 never look
+-- ---- rule 5.3, the normal matrix: of 16 and 19 the inverse of the model-view's, transposed; 14 and 18 never look
 abbrev pub zero3 : Matrix3
 zero3 = record { a = zero32; b = zero32; c = zero32; d = zero32; e = zero32; f = zero32; g = zero32; h = zero32; i = zero32 }
 

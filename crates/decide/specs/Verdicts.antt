@@ -1,4 +1,4 @@
--- What the checks of the float draws come to: a verdict over the command's words, the matrices, and whether a number is held. No plane, no depths and no texels. The order of checks is document 000's. Definitions only.
+-- What the checks of the float draws come to: a verdict over the command's words, the matrices, and whether a number is held. No plane, no depths and no texels. The order of checks is the original's. Definitions only.
 use Prim.Native.Nat.{ℕ, zero, suc, _+_}
 use mathlib.Core.Bool.{Bool, true, false, cond, _&&_}
 use mathlib.Core.List.{List, _∷_}
@@ -15,16 +15,16 @@ use Rattle.verdict.specs.declared.Verdict.the-variants.{Done, Refused}
 use Rattle.payload.specs.Words.{andThen, wordAt, atMost, finiteFrom}
 use Rattle.decide.specs.Corners.{colorAt, firstOf, corner, normalMatrixOf, cornersOf}
 
--- "8 matrix not invertible"
+-- reason 8: the matrix has no inverse
 abbrev pub invertibleOf : Inverse → Verdict
 invertibleOf (Of matrix) = Done
 invertibleOf Singular = Refused NotInvertible 0
 
--- "7 number not held": the number is word 0 of every draw that has one
+-- reason 7: the number is not held. It is word 0 of every draw that has one
 abbrev pub heldOf : Bool → Verdict
 heldOf held = cond held Done (Refused NotHeld 0)
 
--- `vertex.position.iter().all(|value| value.is_finite())`: "A transformed position that is not finite points at its vertex's first word"
+-- `vertex.position.iter().all(|value| value.is_finite())`: a transformed position that is not finite is refused at its vertex's first word
 unfoldable pub finite4 : List Float → Bool
 finite4 v = finite (at v 0) && (finite (at v 1) && (finite (at v 2) && finite (at v 3)))
 
@@ -39,7 +39,7 @@ eachOf check = andThen (check 0) (andThen (check 1) (check 2))
 unfoldable pub inputsOf : List ℕ → Bool → Bool → Verdict
 inputsOf p normal textured = eachOf (λ i. finiteFrom p (firstOf normal textured i) (colorAt normal textured))
 
--- ---- 14 and 16: the matrix, the words of all three vertices, then their transformed positions
+-- ---- rule 3.11, 14 and 16: the matrix, the words of all three vertices, then their transformed positions
 unfoldable pub transformedBy : List ℕ → Bool → Inverse → List ClipVertex → Verdict
 transformedBy p normal inverse tri =
     andThen (invertibleOf inverse)
@@ -49,7 +49,7 @@ transformedBy p normal inverse tri =
 unfoldable pub transformedVerdict : List ℕ → Bool → List Float → Verdict
 transformedVerdict p normal m = transformedBy p normal (normalMatrixOf m normal) (cornersOf p normal false m)
 
--- ---- 18 and 19
+-- ---- rule 3.12, 18 and 19
 -- 18 never tests input positions: per vertex the transformed position, then u, v; 19 the words as they come, and no transformed position
 unfoldable pub plainVertex : List ℕ → ClipVertex → ℕ → Verdict
 plainVertex p v o = andThen (reachedOf v o) (finiteFrom p (o + 3) 2)
@@ -69,7 +69,7 @@ checkedVerdict p normal m = texturedBy p normal (normalMatrixOf m normal) (corne
 unfoldable pub texturedVerdict : List ℕ → Bool → Bool → List Float → Verdict
 texturedVerdict p normal held m = andThen (atMost p 1 2) (andThen (heldOf held) (checkedVerdict p normal m))
 
--- ---- 1B: each record of 28 words becomes a 29-word triangle
+-- ---- rule 3.15, 1B: each record of 28 words becomes a 29-word triangle
 abbrev pub triangleOf : ℕ → List ℕ → List ℕ
 triangleOf mode words = wordAt words 0 ∷ mode ∷ take 27 (drop 1 words)
 

@@ -18,7 +18,7 @@ use Rattle.decide.specs.Corners.{corner, cornersOf}
 use Rattle.decide.specs.Verdicts.{transformedVerdict, checkedVerdict, triangleOf}
 use Rattle.lit.specs.Lit.{transformedLit, texturedLit}
 
--- `flat_color`: vertex 0's of the triangle before clipping
+-- rule 5.11, `flat_color`: vertex 0's of the triangle before clipping
 unfoldable pub flatColor : List ClipVertex → Color
 flatColor tri =
     let c = corner tri 0 .color in
@@ -62,7 +62,7 @@ unfoldable pub texturedStrokes : Settings → List ℕ → Bool → Option Whole
 texturedStrokes s p normal none = []
 texturedStrokes s p normal (some u) = whenDone (atMost p 1 2) (heldStrokes s p normal (u .wide) (u .high) (u .words)) []
 
--- ---- 1B: "In a model draw a refused triangle sets bit 3 and the next one is still drawn". `textures k`: the texture held under k, if one is
+-- ---- 1B, rule 3.15: a refused record is left out and the next one is still drawn. `textures k`: the texture held under k, if one is
 unfoldable pub recordsStrokes : Settings → ℕ → (ℕ → Option Whole) → ℕ → List ℕ → List Stroke
 recordsStrokes s mode textures zero words = []
 recordsStrokes s mode textures (suc n) words =

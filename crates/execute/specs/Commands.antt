@@ -1,4 +1,4 @@
--- The commands: what an opcode is, and what a payload tells. Document 01, "Commands"; document 000, `execute`. No definition here sees the picture. Definitions only.
+-- The commands: what an opcode is, and what a payload says. Section 3 of docs/RULES.md; `execute` of the original. No definition here sees the picture (rule 3.17). Definitions only.
 use Prim.Native.Nat.{ℕ, _+_, _/_, _%_}
 use mathlib.Core.Bool.{Bool, true, false, cond}
 use mathlib.Core.Option.{Option, none, some}
@@ -30,8 +30,8 @@ use Rattle.execute.specs.declared.command.Command.{Command}
 use Rattle.execute.specs.declared.command.Command.the-variants.{Sets, Loads, Paints, Unknown}
 use Rattle.execute.specs.Paints.{Paint, fill, far, flat, stroked}
 
--- ---- what an opcode is: no other definition of the machine tells commands apart by it. "04 .. flags", "01 .. shading mode .. lighting", "02 .. matrix", "15 .. light", "12 .. flat triangle",
--- "14 .. and 16 .. transformed, without and with normals", "17 .. texture number", "18 .. and 19 .. textured, plain and lit", "1A .. model number, n", "1B .. model number, mode"; "Anything else" is unknown
+-- ---- rule 3.1: what an opcode is. No other definition of the machine tells commands apart by it. 04 clears, 01, 02 and 15 set mode, matrix and light, 12 is flat,
+-- 14 and 16 are transformed, 16 with normals; 18 and 19 textured, 19 with normals; 17 and 1A load a texture and a model, and 1B draws one; any other is unknown
 unfoldable pub commandOf : ℕ → Command
 commandOf op =
     cond (eqb op 0x01) (Sets setting.Mode)
@@ -67,7 +67,7 @@ pub record Told : Type 0 where
 abbrev pub tells : Verdict → Settings → List Paint → Told
 tells v s ps = record { verdict = v; settings = s; paints = ps; load = none }
 
--- "3 unknown opcode"; "4 wrong length"
+-- reasons 3 and 4
 abbrev pub unknown : Verdict
 unknown = Refused UnknownOpcode 0
 
@@ -93,7 +93,7 @@ unfoldable pub settingsAfter : Settings → Setting → List ℕ → Changed
 settingsAfter s x p = ofLength (settingWords x) p (setBy s x p) (changed wrongLength s s)
 
 -- ---- those that load
--- 17 tests the least length, then width 0, height 0, width above 1024, height above 1024, then the exact length
+-- rule 3.13: 17 tests the least length, then width 0, height 0, width above 1024, height above 1024, then the exact length
 unfoldable pub textureVerdict : List ℕ → Verdict
 textureVerdict p =
     let w = wordAt p 1 in
@@ -105,7 +105,7 @@ textureVerdict p =
     (cond (ltb 1024 h) (Refused OutOfRange 2)
     (ofLength (3 + areaOf Texture w h) p Done wrongLength)))))
 
--- 1A the least length, then its count, then the exact length
+-- rule 3.14: 1A the least length, then its count, then the exact length
 unfoldable pub countVerdict : List ℕ → Verdict
 countVerdict p =
     cond (ltb (length p) 2) wrongLength
@@ -140,7 +140,7 @@ refused v = painted v []
 unfoldable pub rgbaOf : ℕ → Rgba
 rgbaOf w = record { r = w / 16777216; g = w / 65536 % 256; b = w / 256 % 256; a = w % 256 }
 
--- 04: "Flag 1 writes the dithered colour everywhere; flag 2 refills both depths; flags beyond 3 still do so, then set bit 3"
+-- rule 3.6, of 04: what the two lowest flags ask is painted, and flags above 3 are refused
 abbrev pub when : Bool → Paint → List Paint
 when b a = cond b (a ∷ []) []
 
@@ -150,7 +150,7 @@ clearPaints p = when (eqb (wordAt p 0 % 2) 1) (fill (rgbaOf (wordAt p 1))) ++ wh
 unfoldable pub clearPainted : List ℕ → Painted
 clearPainted p = painted (atMost p 0 3) (clearPaints p)
 
--- 12
+-- rule 3.10: 12
 unfoldable pub flatPainted : List ℕ → Painted
 flatPainted p = painted (flatVerdict p) (whenDone (flatVerdict p) (flat (triOf p) ∷ []) [])
 
@@ -158,7 +158,7 @@ flatPainted p = painted (flatVerdict p) (whenDone (flatVerdict p) (flat (triOf p
 abbrev pub strokedBy : Verdict → List Stroke → Painted
 strokedBy v ks = painted v (map stroked ks)
 
--- 14 and 16; 18 and 19; 1B
+-- rule 3.10: 14 and 16; 18 and 19; 1B
 unfoldable pub transformedPainted : Settings → Bool → List ℕ → Painted
 transformedPainted s normal p = strokedBy (transformedVerdict p normal (s .matrices)) (transformedStrokes s p normal)
 
@@ -170,7 +170,7 @@ unfoldable pub modelPainted : Look → Settings → List ℕ → Painted
 modelPainted look s p =
     strokedBy (modelVerdict p (hasIn (look Texture)) (s .matrices) (look Model (wordAt p 0))) (modelStrokes s p (look Texture) (look Model (wordAt p 0)))
 
--- "04, 3 words .. 12, 11 words .. 14, 12 words and 16, 21 words .. 18, 20 words and 19, 29 words .. 1B, 2 words"
+-- rule 3.2
 abbrev pub drawWords : Draw → ℕ
 drawWords draw.Clear = 3
 drawWords draw.Flat = 11
@@ -195,7 +195,7 @@ toldBy s a = tells (a .verdict) s (a .paints)
 abbrev pub toldOf : Changed → Told
 toldOf c = tells (c .verdict) (c .settings) []
 
--- "Anything else sets bit 3"
+-- rule 3.1: any other opcode is refused
 abbrev pub toldAs : Look → Settings → Command → List ℕ → Told
 toldAs look s (Sets x) p = toldOf (settingsAfter s x p)
 toldAs look s (Loads k) p = loadTold s k p

@@ -1,4 +1,4 @@
--- Control: what the words so far have left, the picture apart; and a command on it, over any way of keeping uploads. `Kept.antt` has one way, slots over lent words; the plain machine's, a whole history, is another. Document 000, `execute`. Definitions only.
+-- Control: what the words so far have left, the picture apart; and a command on it, over any way of keeping uploads. `Kept.antt` has one way, slots over lent words; the plain machine's, a whole history, is another. The original, `execute`. Definitions only.
 use Prim.Native.Nat.{ℕ}
 use mathlib.Core.Bool.{cond}
 use mathlib.Core.Option.{Option, none, some}
@@ -46,7 +46,7 @@ pub record Seen (X : Type 0) : Type 0 where
 abbrev pub stepped : {X : Type 0} → Step X → Picture → Seen X
 stepped s p = record { control = s .control; picture = paintsOn (s .paints) p }
 
--- "9 no slot, else 10 no words"
+-- rule 3.16: reasons 9 and 10
 abbrev pub roomVerdict : Room → Verdict
 roomVerdict Fits = Done
 roomVerdict NoSlot = Refused reason.NoSlot 0
@@ -72,7 +72,7 @@ module _ {X : Type 0} (K : Keep X) where
     box = K .clear (keptOf (c .box) (t .load));
   }
 
-  -- the command whose payload is complete: none is begun then
+  -- rule 2.5: the command whose payload is complete; none is begun then
   unfoldable pub execute : Control X → Step X
   execute c =
       let t : Told = commands.told (K .look (c .box)) (c .settings) (c .opcode) (K .payload (c .box)) in

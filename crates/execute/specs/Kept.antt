@@ -1,4 +1,4 @@
--- The machine as it is: uploads in slots over lent words, a payload in the lent command area; and what a call is lent, as one machine. Document 01, "The machine's small state travels as one value. Large memory is lent". Definitions only.
+-- The machine as it is: uploads in slots over lent words, a payload in the lent command area; and what a call is lent, as one machine (rule 1.3). Definitions only.
 use Prim.Native.Nat.{ℕ, _+_, _≤_}
 use mathlib.Core.Path.{_≡_}
 use mathlib.Core.Bool.{true, cond}
@@ -78,7 +78,7 @@ abbrev pub putBox : Box → Kind → Whole → Box
 putBox b Texture u = box (putOn Texture (b .textures) u) (b .models) (b .area) (b .gathered)
 putBox b Model u = box (b .textures) (putOn Model (b .models) u) (b .area) (b .gathered)
 
--- "Payload words go into the command area from its start; the rest of it is unchanged"
+-- rule 2.5: payload words go into the command area from its start, and the rest of it stays
 abbrev pub asBox : Keep Box
 asBox = record {
   look = λ b. lookOn (b .textures) (b .models);

@@ -22,9 +22,9 @@ abbrev pub picture : List ℕ → List ℤ → List Float → Picture
 picture P D F = record { plane = P; depth = D; depthF = F }
 
 pub data Paint : Type 0 where
-  -- "Flag 1 writes the dithered colour everywhere"
+  -- rule 3.6, flag 1
   fill : Rgba → Paint
-  -- "flag 2 refills both depths"
+  -- rule 3.6, flag 2
   far : Paint
   -- a flat triangle that is not refused
   flat : Tri → Paint

@@ -1,4 +1,4 @@
-// What a command is, by its opcode: the one place that tells opcodes apart. Document 01, "Commands".
+// What a command is, by its opcode: the one place that tells opcodes apart (rule 3.1).
 use store::Kind;
 ghost use mathlib.Core.Path.{_≡_};
 ghost use Rattle.execute.specs.Commands.{commandOf, settingWords, drawWords};

@@ -1,4 +1,4 @@
--- `insideOf` is `inside` as document 000 writes it, in either rasteriser, for all floats: NaN, infinities and both zeros among them, as area or as weight. Assumes nothing.
+-- `insideOf` is `inside` as the original writes it, in either rasteriser, for all floats: NaN, infinities and both zeros among them, as area or as weight. Assumes nothing.
 use mathlib.Core.Path.{_≡_, refl}
 use mathlib.Core.Bool.{Bool, true, false, cond, _&&_, and-true}
 use mathlib.Core.List.{[], _∷_}

@@ -1,4 +1,4 @@
--- The set-up of a float triangle, which both rasterisers share: what stands before their loops in document 000. Definitions only.
+-- The set-up of a float triangle, which both rasterisers share: what stands before their loops in the original. Definitions only.
 use mathlib.Core.Bool.{Bool, cond, _||_}
 use mathlib.Core.List.{List}
 use Prim.Native.Nat.{ℕ, _≤_}
@@ -59,7 +59,7 @@ minOf a b c = natOf (minZ (minZ (floorOf a) (floorOf b)) (floorOf c))
 unfoldable pub pastOf : Float → Float → Float → ℕ → ℕ
 pastOf a b c last = natOf (sucℤ (minZ (maxZ (maxZ (ceilOf a) (ceilOf b)) (ceilOf c)) (pos last)))
 
--- the box, part of the rule: rounding can let the edges cover a pixel outside it
+-- rule 5.9: the box, part of the rule: rounding can let the edges cover a pixel outside it
 unfoldable pub boundsOf : Point → Point → Point → Bounds
 boundsOf a b c =
     record {
@@ -85,7 +85,7 @@ faceOf split p q r =
       bounds = boundsOf a b c;
     }
 
--- nothing where a corner is behind, or where the area is at most 2 ^ -23 in size; an empty box, the source's third `return`, holds no pixel
+-- rule 5.8: nothing if a corner is behind, or if the area is at most 2 ^ -23 in size; an empty box, the source's third `return`, holds no pixel
 unfoldable pub setupOf : Bool → List ClipVertex → Setup
 setupOf split tri =
     let p = corner tri 0 .position in

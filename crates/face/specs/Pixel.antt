@@ -29,7 +29,7 @@ weight1 f x y = edgeOf (f .c) (f .a) (centreOf x) (centreOf y)
 unfoldable pub weight2 : Face → ℕ → ℕ → Float
 weight2 f x y = edgeOf (f .a) (f .b) (centreOf x) (centreOf y)
 
--- `inside`: all three weights on the area's side; a NaN is on neither
+-- rule 5.9, `inside`: all three weights on the area's side; a NaN is on neither
 unfoldable pub insideOf : Float → Float → Float → Float → Bool
 insideOf area w0 w1 w2 =
     cond (lt zero32 area) (le zero32 w0 && (le zero32 w1 && le zero32 w2)) (le w0 zero32 && (le w1 zero32 && le w2 zero32))
@@ -49,6 +49,6 @@ mixOf b v = b .c0 · v .c0 ⊕ b .c1 · v .c1 ⊕ b .c2 · v .c2
 unfoldable pub depthAt : Face → ℕ → ℕ → Float
 depthAt f x y = mixOf (baryOf f x y) (f .depth)
 
--- not `z < 0.0 || z > 1.0 || z >= self.depth_f32[index]`: "A NaN depth passes all three depth comparisons and is stored"
+-- rule 5.10. Not `z < 0.0 || z > 1.0 || z >= self.depth_f32[index]`: a NaN passes all three
 unfoldable pub passesOf : Float → Float → Bool
 passesOf z old = not (lt z zero32) && (not (lt one32 z) && not (le old z))

@@ -1,4 +1,4 @@
--- `inside` in the very shape of document 000's lines, once for each rasteriser; proofs/Source.antt shows that both are `insideOf`. Definitions only.
+-- `inside` in the very shape of the original's lines, once for each rasteriser; proofs/Source.antt shows that both are `insideOf`. Definitions only.
 use mathlib.Core.Bool.{Bool, true, cond, _&&_}
 use mathlib.Core.List.{List, [], _∷_}
 use lib.Ieee.{Float, lt, le}

@@ -1,4 +1,4 @@
--- Document 01, "Numbers to be proved", cases 6 to 10, of the command's own definitions over its words; and what it leaves at each place. Assumes nothing.
+-- Rules 9.6 to 9.10, of the command's own definitions over its words; and what it leaves at each place. Assumes nothing.
 use mathlib.Core.Path.{_≡_, refl, sym, ap, _∙_}
 use mathlib.Core.Bool.{Bool, true, false, cond, and-false}
 use mathlib.Core.List.{List, [], _∷_}

@@ -9,7 +9,7 @@ use mir.Val.{SFits}
 use Rattle.laws.specs.Within.{Within}
 use Rattle.screen.specs.Plane.{width, height}
 
--- "Coordinates outside ±8192 are refused"
+-- rule 4.2: how far from 0 a coordinate may be
 abbrev pub reach : ℕ
 reach = 8192
 
@@ -17,11 +17,11 @@ reach = 8192
 unfoldable pub edgeOf : ℤ → ℤ → ℤ → ℤ → ℤ → ℤ → ℤ
 edgeOf ax ay bx by px py = (px -ℤ ax) *ℤ (by -ℤ ay) -ℤ (py -ℤ ay) *ℤ (bx -ℤ ax)
 
--- `inside`, of one edge: "including edges", so 0 agrees with either sign
+-- rule 4.3, `inside`, of one edge: 0 agrees with either sign
 unfoldable pub agreesOf : ℤ → ℤ → Bool
 agreesOf area w = cond (ltZ (pos 0) area) (leZ (pos 0) w) (leZ w (pos 0))
 
--- "zero area draws nothing"
+-- rule 4.3: there is an area
 unfoldable pub hasArea : ℤ → Bool
 hasArea area = ltZ (pos 0) area || ltZ area (pos 0)
 
@@ -29,7 +29,7 @@ hasArea area = ltZ (pos 0) area || ltZ area (pos 0)
 unfoldable pub insideOf : ℤ → ℤ → ℤ → ℤ → Bool
 insideOf area w0 w1 w2 = hasArea area && (agreesOf area w0 && (agreesOf area w1 && agreesOf area w2))
 
--- `d`: "the weighted sum divided by the area, cut towards zero"
+-- rule 4.4, `d`
 unfoldable pub weightedOf : ℤ → ℤ → ℤ → ℤ → ℤ → ℤ → ℤ → ℤ
 weightedOf area w0 w1 w2 z0 z1 z2 = quotZ (w0 *ℤ z0 +ℤ w1 *ℤ z1 +ℤ w2 *ℤ z2) area
 

@@ -1,4 +1,4 @@
--- Document 01, "Flat triangles": what one does to each depth and to each byte of the plane. There is no bounding box. Assumes nothing.
+-- What a flat triangle does to each depth and to each byte of the plane: rules 4.3, 4.4 and 4.5. There is no bounding box. Assumes nothing.
 use mathlib.Core.Bool.{Bool, _&&_}
 use mathlib.Core.List.{List}
 use Prim.Native.Nat.{ℕ, _/_, _%_}
@@ -46,7 +46,7 @@ covers t x y = insideOf (areaOf t) (weight0 t x y) (weight1 t x y) (weight2 t x 
 unfoldable pub depthAt : Tri → ℕ → ℕ → ℤ
 depthAt t x y = weightedOf (areaOf t) (weight0 t x y) (weight1 t x y) (weight2 t x y) (t .z0) (t .z1) (t .z2)
 
--- "replaces only a greater one": does it show at the pixel k, whose depth is old? And the depth that it then leaves
+-- rule 4.5: does it show at the pixel k, whose depth is old? And the depth that it then leaves
 unfoldable pub shows : Tri → ℕ → ℤ → Bool
 shows t k old = covers t (k % width) (k / width) && ltZ (depthAt t (k % width) (k / width)) old
 

@@ -19,11 +19,11 @@ use Rattle.flat.specs.Tri.{triDepths, triPlane}
 abbrev pub signedAt : List ℕ → ℕ → ℤ
 signedAt p k = toZ w32 (getD p k 0)
 
--- "c × min(shade, 255) / 255"
+-- rule 4.6
 unfoldable pub shadedOf : ℕ → ℕ → ℕ
 shadedOf c shade = c * min shade 255 / 255
 
--- corner by corner x, y and depth; the colour, its top byte unused; the shade. "alpha 255"
+-- rules 4.1 and 4.6: corner by corner x, y and depth; the colour, its top byte unused; the shade
 unfoldable pub triOf : List ℕ → Tri
 triOf p =
     let rgb : ℕ = getD p 9 0 in
@@ -41,7 +41,7 @@ triOf p =
       color = record { r = shadedOf (rgb / 65536 % 256) shade; g = shadedOf (rgb / 256 % 256) shade; b = shadedOf (rgb % 256) shade; a = 255 };
     }
 
--- "Coordinates outside ±8192 are refused .. before the area is looked at"
+-- rule 4.2
 unfoldable pub inReach : ℤ → Bool
 inReach a = leb (natAbs a) reach
 

@@ -1,4 +1,4 @@
-// Flat triangles: document 01, "Flat triangles", command 12; `draw_flat_triangle` of the original.
+// Flat triangles, command 12: section 4 of docs/RULES.md; `draw_flat_triangle` of the original.
 // What the words say and whether they are refused (`tri`) is apart from painting (`draw`).
 use verdict::Verdict;
 ghost use mathlib.Core.Path.{_≡_};

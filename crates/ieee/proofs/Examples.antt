@@ -1,4 +1,4 @@
--- Worked numbers, by computation from the definitions. Document 01, case 13, is `root-of-two` and `root-of-least`. Assumes nothing.
+-- Worked numbers, by computation from the definitions. Rule 9.13 is `root-of-two` and `root-of-least`. Assumes nothing.
 use mathlib.Core.Path.{_≡_, refl}
 use Prim.Native.Nat.{ℕ}
 use lib.IntN.{pos, negsuc}

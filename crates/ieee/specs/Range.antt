@@ -3,11 +3,11 @@ use mathlib.Core.Bool.{Bool, false, cond}
 use lib.Ieee.{Float, nan, inf, fin, binary32, ofBits, lt, le}
 use Rattle.ieee.specs.Units.{zero32, one32}
 
--- Rust's `x.clamp(0.0, 1.0)`. Document 01: "Clamp keeps NaN", since neither comparison holds of it; -0.0 stays too
+-- rule 7.7, Rust's `x.clamp(0.0, 1.0)`: neither comparison holds of a NaN; -0.0 stays too
 abbrev pub clampOf : Float → Float
 clampOf x = cond (lt x zero32) zero32 (cond (lt one32 x) one32 x)
 
--- Rust's `x.max(0.0)`, with +0.0 where both are zeros. Document 01: "maximum with 0 turns it into 0"
+-- rule 7.7, Rust's `x.max(0.0)`, with +0.0 where both are zeros
 abbrev pub maxOf : Float → Float
 maxOf x = cond (lt zero32 x) x zero32
 

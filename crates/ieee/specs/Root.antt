@@ -1,4 +1,4 @@
--- The square root. Document 01: "Square root is to nearest, ties to even", over whole numbers. Definitions only.
+-- The square root (rules 7.5 and 7.8), to nearest over whole numbers. Definitions only.
 -- For x = n * 2 ^ -149 the root is √(n * 2 ^ 149) times 2 ^ -149, so all is said of the whole number n * 2 ^ 149.
 -- That this is the nearest value, that no second one is, and that no tie comes up: proofs/Nearest.antt.
 use Prim.Native.Nat.{ℕ, zero, suc, _+_, _-_, _*_, _/_, _^_, _<_}
@@ -41,7 +41,7 @@ root (fin s zero e) = fin s zero e
 root (fin true (suc m) e) = nan
 root (fin false (suc m) e) = rootWholes (wholes (fin false (suc m) e))
 
--- What "to nearest" means: c * 2 ^ -149 is nearer to the root of n * 2 ^ -149 than y * 2 ^ -149 is. The root lies on c's side of the mean of the two,
+-- rule 7.8, nearest: c * 2 ^ -149 is nearer to the root of n * 2 ^ -149 than y * 2 ^ -149 is. The root lies on c's side of the mean of the two,
 -- which is said with both sides squared and four times as large.
 pub record Nearer (n c y : ℕ) : Type 0 where
   pub above : c < y → 4 * (n * 2 ^ 149) < (c + y) * (c + y)

@@ -1,4 +1,4 @@
--- Floats over whole numbers. Document 01, "Floats": "a finite float being its multiple of 2^-149". Definitions only.
+-- Floats over whole numbers (rule 7.5): a finite float is its multiple of 2^-149. Definitions only.
 use Prim.Native.Nat.{ℕ, _+_, _-_, _*_, _/_, _^_}
 use lib.Ieee.{Float, nan, inf, fin, binary32, up, down, ofBits}
 

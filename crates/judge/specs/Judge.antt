@@ -35,7 +35,7 @@ slotOr Nothing = noSlot
 unfoldable pub slotBy : List ℕ → List Slot → Slot
 slotBy p slots = whenDone (atMost p 1 2) (slotOr (slotFor (wordAt p 0) slots)) noSlot
 
--- ---- 1B, with the model that is held under word 0, if one is
+-- ---- rule 3.15: 1B, with the model that is held under word 0, if one is
 unfoldable pub modelVerdict : List ℕ → (ℕ → Bool) → List Float → Option Whole → Verdict
 modelVerdict p has m none = andThen (atMost p 1 2) (Refused NotHeld 0)
 modelVerdict p has m (some u) = andThen (atMost p 1 2) (recordsVerdict (wordAt p 1) has m (u .wide) (u .words))

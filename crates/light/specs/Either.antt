@@ -1,4 +1,4 @@
--- Shading in which each `max(0.0)` may answer either zero if both numbers are zeros, as Rust's documentation lets it at each call: document 000's `shade_vertex`. proofs/Either.antt shows that one outcome is left. Definitions only.
+-- Shading in which each `max(0.0)` may answer either zero if both numbers are zeros, as Rust's documentation lets it at each call: the original's `shade_vertex`. proofs/Either.antt shows that one outcome is left. Definitions only.
 use mathlib.Core.Path.{_≡_}
 use mathlib.Core.Bool.{true, false, cond}
 use mathlib.Core.List.{List, [], _∷_}

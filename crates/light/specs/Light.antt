@@ -1,4 +1,4 @@
--- Lights. Document 01, "A light is one record of fifteen finite floats and a switch"; document 000's `Light` and `shade_vertex`. Definitions only.
+-- Lights (rule 5.4): a switch and fifteen floats; `Light` and `shade_vertex` of the original. Definitions only.
 use Prim.Native.Nat.{ℕ}
 use mathlib.Core.Bool.{false, cond}
 use mathlib.Core.List.{List, [], _∷_}
@@ -12,7 +12,7 @@ use Rattle.light.specs.declared.Light.{Light}
 abbrev pub none : List Float
 none = zero32 ∷ zero32 ∷ zero32 ∷ []
 
--- the dark light, `Light::DISABLED`
+-- rule 1.9: the dark light, `Light::DISABLED`
 abbrev pub disabled : Light
 disabled = record { enabled = false; ambient = none; diffuse = none; specular = none; emission = none; position = none }
 
@@ -55,7 +55,7 @@ unfoldable pub litOf : List Float → List Float → List Float → List Float �
 litOf albedo p n v [] rgb = rgb
 litOf albedo p n v (l ∷ ls) rgb = litOf albedo p n v ls (cond (l .enabled) (addedOf albedo p n v l rgb) rgb)
 
--- `shade_vertex`: the lights' sum from 0, and the albedo's alpha
+-- rule 5.4, `shade_vertex`: the lights' sum from 0, and the albedo's alpha
 abbrev pub withAlpha : List Float → Float → List Float
 withAlpha rgb a = at rgb 0 ∷ at rgb 1 ∷ at rgb 2 ∷ a ∷ []
 

@@ -21,7 +21,7 @@ unfolding normalIn normalAt
 normal-in-fits p o true matrix axis = normal-fits (applyOf matrix (threeAt p (o + 3))) axis
 normal-in-fits p o false matrix axis = three-fit zero32 zero32 zero32 (ofBits-fits binary32 0) (ofBits-fits binary32 0) (ofBits-fits binary32 0) axis
 
--- `vertices.iter().map(|vertex| vertex.normal[axis]).sum::<f32>()`: lines 715 to 718 of document 000
+-- `vertices.iter().map(|vertex| vertex.normal[axis]).sum::<f32>()`: lines 715 to 718 of the original
 module _ (p : List ℕ) (normal textured : Bool) (m : List Float) (axis : ℕ) where
   pub normal-sum : librarySum 3 (λ (i : ℕ). at (corner (cornersOf p normal textured m) i .normal) axis) ≡ sumOf (cornersOf p normal textured m) axis
   unfolding cornersOf cornersBy cornerOf

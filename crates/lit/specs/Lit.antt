@@ -1,4 +1,4 @@
--- What lighting makes of the three corners. Document 000, from `face_normal` on; document 01, "Floats". Definitions only.
+-- What lighting makes of the three corners (rule 5.5); the original, from `face_normal` on. Definitions only.
 use Prim.Native.Nat.{ℕ}
 use mathlib.Core.Bool.{Bool, cond, _&&_}
 use mathlib.Core.List.{List, [], _∷_}

@@ -1,4 +1,4 @@
--- What the words of a payload say, read as floats and as colours, and the order of checks. Document 000, "f32::from_bits(p[o])" and "to_be_bytes". Definitions only.
+-- What the words of a payload say, read as floats and as colours, and the order of checks: `f32::from_bits(p[o])` and `to_be_bytes` of the original. Definitions only.
 use Prim.Native.Nat.{ℕ, zero, suc, _+_, _/_, _%_}
 use mathlib.Core.Bool.{cond}
 use mathlib.Core.List.{List, [], _∷_}
@@ -27,11 +27,11 @@ threeAt p i = floatAt p i ∷ floatAt p (i + 1) ∷ floatAt p (i + 2) ∷ []
 abbrev pub atMost : List ℕ → ℕ → ℕ → Verdict
 atMost p i most = cond (leb (wordAt p i) most) Done (Refused OutOfRange i)
 
--- `.all(|value| value.is_finite())` over the n words from i on: "the payload index of the word first found wrong"
+-- rule 3.4, `.all(|value| value.is_finite())` over the n words from i on: refused at the first that is not
 unfoldable pub finiteFrom : List ℕ → ℕ → ℕ → Verdict
 finiteFrom p i zero = Done
 finiteFrom p i (suc n) = cond (finite (floatAt p i)) (finiteFrom p (i + 1) n) (Refused NotFinite i)
 
--- `p[o + 5].to_be_bytes().map(|c| c as f32 / 255.0)`
+-- rule 5.1, `p[o + 5].to_be_bytes().map(|c| c as f32 / 255.0)`
 unfoldable pub colorOf : ℕ → List Float
 colorOf w = unitOf (w / 16777216) ∷ unitOf (w / 65536 % 256) ∷ unitOf (w / 256 % 256) ∷ unitOf (w % 256) ∷ []

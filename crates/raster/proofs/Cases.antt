@@ -1,4 +1,4 @@
--- Document 01, "Numbers to be proved", case 11. Assumes nothing.
+-- Rule 9.11. Assumes nothing.
 use mathlib.Core.Path.{_≡_}
 use mathlib.Core.List.{List, [], _∷_}
 use Prim.Native.Nat.{ℕ}

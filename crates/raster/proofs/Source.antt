@@ -1,4 +1,4 @@
--- `tonedOf`, in the tone of a mode, is `rgba` as document 000 writes it: for every mode, all floats (NaN among them) and every texel. Assumes nothing.
+-- `tonedOf`, in the tone of a mode, is `rgba` as the original writes it: for every mode, all floats (NaN among them) and every texel. Assumes nothing.
 use mathlib.Core.Path.{_≡_, refl}
 use mathlib.Core.List.{List}
 use Prim.Native.Nat.{ℕ, zero, suc}

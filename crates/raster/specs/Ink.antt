@@ -1,4 +1,4 @@
--- What a float triangle leaves at a pixel that it shows at: a colour, or nothing. Document 000, from the store of the depth to `write_pixel`. Each operation rounds once, in the source's order. Definitions only.
+-- What a float triangle leaves at a pixel that it shows at: a colour, or nothing. The original, from the store of the depth to `write_pixel`. Each operation rounds once, in the source's order. Definitions only.
 use mathlib.Core.Bool.{Bool, cond}
 use mathlib.Core.List.{List}
 use Prim.Native.Nat.{ℕ, _+_, _*_, _/_, _%_, _≤_}
@@ -24,7 +24,7 @@ use Rattle.raster.specs.declared.ink.Shade.the-variants.{Blank, Of}
 use Rattle.face.specs.Face.{corner}
 use Rattle.face.specs.Pixel.{mixOf}
 
--- `(value.clamp(0.0, 1.0) * 255.0 + 0.5) as u8`
+-- rule 5.15, `(value.clamp(0.0, 1.0) * 255.0 + 0.5) as u8`
 unfoldable pub byteOf : Float → ℕ
 byteOf v = casts.unitByteOf (clampOf v)
 
@@ -45,7 +45,7 @@ colorsOf tri = record { r = channelOf tri 0; g = channelOf tri 1; b = channelOf 
 unfoldable pub samplerOf : List ClipVertex → ℕ → ℕ → Sampler
 samplerOf tri width height = record { width = width; height = height; u = uvOf tri 0; v = uvOf tri 1 }
 
--- ---- `rasterize_transformed_triangle`: a colour divided by w. b is `bary`, i is `inv_w`, d the `denominator`
+-- ---- rule 5.11, `rasterize_transformed_triangle`: a colour divided by w. b is `bary`, i is `inv_w`, d the `denominator`
 -- `(bary[0] * tri[0].color[channel] * inv_w[0] + ..) / denominator`
 unfoldable pub dividedOf : Corners → Corners → Float → Corners → Float
 dividedOf b i d v = (b .c0 · v .c0 · i .c0 ⊕ b .c1 · v .c1 · i .c1 ⊕ b .c2 · v .c2 · i .c2) ⊘ d
@@ -54,8 +54,8 @@ dividedOf b i d v = (b .c0 · v .c0 · i .c0 ⊕ b .c1 · v .c1 · i .c1 ⊕ b .
 unfoldable pub blendOf : Colors → Corners → Corners → Float → Color
 blendOf c b i d = record { r = dividedOf b i d (c .r); g = dividedOf b i d (c .g); b = dividedOf b i d (c .b); a = dividedOf b i d (c .a) }
 
--- ---- `rasterize_textured_triangle`: plain interpolation
--- "width, height 1..1024, then exactly (width × height + 1) / 2 words": a texture of these sides in n words
+-- ---- rule 5.12, `rasterize_textured_triangle`: plain interpolation
+-- rule 3.13: a texture of these sides in n words
 pub record Texture (width height n : ℕ) : Type 0 where
   pub some-width : 1 ≤ width
   pub some-height : 1 ≤ height
@@ -67,11 +67,11 @@ pub record Texture (width height n : ℕ) : Type 0 where
 unfoldable pub placeOf : Sampler → Corners → ℕ
 placeOf s b = casts.texelOf (mixOf b (s .v)) (s .height) * s .width + casts.texelOf (mixOf b (s .u)) (s .width)
 
--- "High half first": the sixteen bits of texel n, out of the words as received
+-- rule 5.13: the sixteen bits of texel n, out of the words as received, the high half first
 unfoldable pub halfOf : List ℕ → ℕ → ℕ
 halfOf texels n = cond (eqb (n % 2) 0) (getD texels (n / 2) 0 / 65536) (getD texels (n / 2) 0 % 65536)
 
--- "nibbles R, G, B, A times 17"
+-- rule 5.13: four digits of 4 bits, each times 17
 unfoldable pub nibblesOf : ℕ → Rgba
 nibblesOf t = record { r = t / 4096 % 16 * 17; g = t / 256 % 16 * 17; b = t / 16 % 16 * 17; a = t % 16 * 17 }
 
@@ -91,7 +91,7 @@ tintedOf t c = record { r = t .r · c .r; g = t .g · c .g; b = t .b · c .b; a 
 unfoldable pub mixedOf : Colors → Corners → Color
 mixedOf c b = record { r = clampOf (mixOf b (c .r)); g = clampOf (mixOf b (c .g)); b = clampOf (mixOf b (c .b)); a = clampOf (mixOf b (c .a)) }
 
--- `color`, of the texel t: in mode 0 as it is, in mode 1 times the flat colour, else times the interpolated one
+-- rule 5.14, `color`, of the texel t: in mode 0 as it is, in mode 1 times the flat colour, else times the interpolated one
 unfoldable pub tonedOf : Tone → Rgba → Corners → Rgba
 tonedOf Plain t b = rgbaOf (plainOf t)
 tonedOf (Tinted c) t b = rgbaOf (tintedOf (plainOf t) c)

@@ -1,4 +1,4 @@
--- What a float triangle does to each depth and to each byte of the plane: the loops of `rasterize_transformed_triangle` and `rasterize_textured_triangle` of document 000. Definitions only.
+-- What a float triangle does to each depth and to each byte of the plane: the loops of `rasterize_transformed_triangle` and `rasterize_textured_triangle` of the original. Definitions only.
 use mathlib.Core.Bool.{Bool, _&&_}
 use mathlib.Core.List.{List}
 use Prim.Native.Nat.{ℕ, _/_, _%_}
@@ -15,7 +15,7 @@ use Rattle.raster.specs.declared.ink.Shade.the-variants.{Blank, Of}
 use Rattle.face.specs.Pixel.{within, covers, baryOf, depthAt, passesOf}
 use Rattle.raster.specs.Ink.{shadeOf}
 
--- does it show at (x, y), whose depth is old? In the box, inside the edges, and not behind
+-- rules 5.9 and 5.10: does it show at (x, y), whose depth is old? In the box, inside the edges, and not behind
 unfoldable pub showsAt : Face → ℕ → ℕ → Float → Bool
 showsAt f x y old = within (f .bounds) x y && (covers f x y && passesOf (depthAt f x y) old)
 

@@ -1,4 +1,4 @@
--- A texel's colour in the very shape of document 000's lines, from `c` to `rgba` in `rasterize_textured_triangle`; proofs/Source.antt shows that it is `tonedOf`. Definitions only.
+-- A texel's colour in the very shape of the original's lines, from `c` to `rgba` in `rasterize_textured_triangle`; proofs/Source.antt shows that it is `tonedOf`. Definitions only.
 use mathlib.Core.Bool.{cond}
 use mathlib.Core.List.{List, [], _∷_}
 use Prim.Native.Nat.{ℕ}

@@ -1,4 +1,4 @@
--- The two rasterisers of document 000, over a triangle of clipped vertices: its positions, colours and texture coordinates are read, and nothing else of it. Definitions only.
+-- The two rasterisers of the original, over a triangle of clipped vertices: its positions, colours and texture coordinates are read, and nothing else of it. Definitions only.
 use mathlib.Core.Bool.{true, false, cond}
 use mathlib.Core.List.{List, []}
 use Prim.Native.Nat.{ℕ}

@@ -19,7 +19,7 @@ away f num den v = (v * den - num * 2 ^ low f) + (num * 2 ^ low f - v * den)
 abbrev pub lastDigit : Format → ℕ → ℕ
 lastDigit f v = v / 2 ^ (size v - prec f) % 2
 
--- 4.3.1, roundTiesToEven: v units are a value of the format, none is nearer to num / den, and if another is as near v's last digit is even
+-- rule 7.1; 4.3.1, roundTiesToEven: v units are a value of the format, none is nearer to num / den, and if another is as near v's last digit is even
 pub record Rounded (f : Format) (num den v : ℕ) : Type 0 where
   pub held : Held f v
   pub nearest : (w : ℕ) → Held f w → away f num den v ≤ away f num den w

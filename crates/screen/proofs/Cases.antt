@@ -1,4 +1,4 @@
--- Document 01, "Numbers to be proved", cases 4 and 5, of the definitions. Assumes nothing.
+-- Rules 9.4 and 9.5, of the definitions. Assumes nothing.
 use mathlib.Core.Path.{_≡_, refl, _∙_}
 use mathlib.Core.List.{List, [], _∷_}
 use Prim.Native.Nat.{ℕ, _+_, _*_, _<_}

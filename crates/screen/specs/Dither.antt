@@ -1,22 +1,22 @@
--- Document 01, "Dither": what a channel of a colour becomes on the screen. Assumes nothing.
+-- Dither: what a channel of a colour becomes on the screen. Assumes nothing.
 use Prim.Native.Nat.{ℕ, _+_, _*_, _/_, _%_}
 use mathlib.Core.Bool.{cond}
 use mathlib.Core.List.{List, [], _∷_}
 use lib.Dec.{ltb}
 use lib.ListN.{getD}
 
--- "the sixteen Bayer thresholds", a row of four for each y mod 4
+-- rule 6.1: the sixteen thresholds, a row of four for each y mod 4
 abbrev pub bayer : List ℕ
 bayer = 0 ∷ 8 ∷ 2 ∷ 10 ∷ 12 ∷ 4 ∷ 14 ∷ 6 ∷ 3 ∷ 11 ∷ 1 ∷ 9 ∷ 15 ∷ 7 ∷ 13 ∷ 5 ∷ []
 
--- "t .. at (x mod 4, y mod 4)": the original's table is indexed by y first
+-- rule 6.1: the one at (x, y). The original's table is indexed by y first
 abbrev pub thresholdAt : ℕ → ℕ → ℕ
 thresholdAt x y = getD bayer (y % 4 * 4 + x % 4) 0
 
--- "Level = 31c / 255, plus 1 where the remainder × 32 exceeds (2t + 1) × 255"
+-- rule 6.2
 unfoldable pub levelOf : ℕ → ℕ → ℕ
 levelOf c t = c * 31 / 255 + cond (ltb ((t * 2 + 1) * 255) (c * 31 % 255 * 32)) 1 0
 
--- "The byte is (255 × level + 15) / 31"
+-- rule 6.3
 unfoldable pub ditherOf : ℕ → ℕ → ℕ
 ditherOf c t = (levelOf c t * 255 + 15) / 31

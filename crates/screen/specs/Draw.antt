@@ -10,7 +10,7 @@ use Prim.Native.Nat.{ℕ, _*_, _/_}
 use lib.ListN.{getD}
 use Rattle.laws.specs.Cells.{mapRange}
 
--- "integer depth and float depth 76,800 numbers each"
+-- rule 1.2, and so many numbers of each depth are lent
 abbrev pub pixels : ℕ
 pixels = 76800
 

@@ -1,5 +1,5 @@
 -- The plane: byte j belongs to the pixel j / 4, which stands at (j / 4 mod 320, j / 4 / 320), and is its channel j mod 4.
--- Document 01, "Lent memory and call answers"; `write_pixel` and `pixel` of document 000. Assumes nothing.
+-- Rules 1.1, 1.6 and 1.7; `write_pixel` and `pixel` of the original. Assumes nothing.
 use Prim.Native.Nat.{ℕ, zero, suc, _+_, _-_, _*_, _/_, _%_}
 use mathlib.Core.Bool.{cond, _&&_}
 use mathlib.Core.List.{List, [], _∷_}
@@ -10,7 +10,7 @@ use Rattle.screen.specs.declared.plane.Rgba.{Rgba}
 use Rattle.screen.specs.declared.plane.Read.{Read}
 use Rattle.screen.specs.declared.plane.Read.the-variants.{Colour, WrongLength}
 
--- "a 320 by 240 plane"
+-- rule 1.1
 abbrev pub width : ℕ
 width = 320
 
@@ -20,11 +20,11 @@ height = 240
 abbrev pub rowBytes : ℕ
 rowBytes = 1280
 
--- "plane 307,200 bytes"
+-- rules 1.1 and 1.4
 abbrev pub planeBytes : ℕ
 planeBytes = 307200
 
--- "Alpha is not dithered": what a colour shows in a channel of a pixel that has the threshold t
+-- rule 6.4: what a colour shows in a channel of a pixel that has the threshold t
 abbrev pub channel : Rgba → ℕ → ℕ → ℕ
 channel c t zero = ditherOf (c .r) t
 channel c t (suc zero) = ditherOf (c .g) t
@@ -39,7 +39,7 @@ shown c j = channel c (thresholdAt (j / 4 % width) (j / 4 / width)) (j % 4)
 unfoldable pub paint : Rgba → ℕ → ℕ → ℕ
 paint c j old = shown c j
 
--- The answer to "read a pixel from the plane", as the table has it: its number, and "four colour bytes"
+-- The answer to reading a pixel: its number, and four bytes
 pub record Answered : Type 0 where
   pub number : ℕ
   pub bytes : List ℕ
@@ -52,7 +52,7 @@ abbrev pub answered : Read → Answered
 answered (Colour c) = record { number = 0; bytes = c .r ∷ c .g ∷ c .b ∷ c .a ∷ [] }
 answered WrongLength = record { number = 1; bytes = nothing }
 
--- the four bytes of the pixel at (x, y): "a pixel with x ≥ 320 or y ≥ 240 answers 0 and four zeros"
+-- rule 1.7: the four bytes of the pixel at (x, y), and four zeros off the screen
 abbrev pub fourFrom : List ℕ → ℕ → List ℕ
 fourFrom plane j = getD plane j 0 ∷ getD plane (j + 1) 0 ∷ getD plane (j + 2) 0 ∷ getD plane (j + 3) 0 ∷ []
 

@@ -1,4 +1,4 @@
--- What the commands 01, 02 and 15 set and every float draw reads. Document 01, "Commands", "The fresh state" and "Well formed". Definitions only.
+-- What the commands 01, 02 and 15 set and every float draw reads. Definitions only.
 use Prim.Native.Nat.{ℕ, _*_}
 use mathlib.Core.Bool.{Bool, true, false, cond, _&&_}
 use mathlib.Core.List.{List, [], _∷_, _++_}
@@ -16,7 +16,7 @@ use Rattle.payload.specs.Words.{andThen, whenDone, wordAt, threeAt, atMost, fin
 use Rattle.settings.specs.declared.Settings.{Settings}
 use Rattle.settings.specs.declared.Changed.{Changed}
 
--- "three identity matrices, shading mode 0, lighting off, eight dark lights"
+-- rule 1.9: three identity matrices, shading mode 0, lighting off, eight dark lights
 abbrev pub fresh : Settings
 fresh = record {
   matrices = identity .cells ++ (identity .cells ++ identity .cells);
@@ -29,7 +29,7 @@ fresh = record {
 abbrev pub changed : Verdict → Settings → Settings → Changed
 changed v new old = record { verdict = v; settings = whenDone v new old }
 
--- "01, 2 words: (0, 0..1) shading mode; (1, 0..1) lighting": "word 0 if above 1, else word 1"
+-- rule 3.7
 unfoldable pub modeVerdict : List ℕ → Verdict
 modeVerdict p = andThen (atMost p 0 1) (atMost p 1 1)
 
@@ -39,7 +39,7 @@ withMode s p =
     (record { matrices = s .matrices; «shading_mode» = wordAt p 1; «lighting_enabled» = s .«lighting_enabled»; lights = s .lights })
     (record { matrices = s .matrices; «shading_mode» = s .«shading_mode»; «lighting_enabled» = eqb (wordAt p 1) 1; lights = s .lights })
 
--- "02, 17 words: matrix 0..2 and 16 floats"; "One value not finite: bit 3, nothing stored"
+-- rule 3.8
 unfoldable pub matrixVerdict : List ℕ → Verdict
 matrixVerdict p = andThen (atMost p 0 2) (finiteFrom p 1 16)
 
@@ -51,7 +51,7 @@ withMatrix s p = record {
   lights = s .lights;
 }
 
--- "15, 17 words: light 0..7, switch 0..1, 15 floats"
+-- rule 3.9
 unfoldable pub lightVerdict : List ℕ → Verdict
 lightVerdict p = andThen (atMost p 0 7) (andThen (atMost p 1 1) (finiteFrom p 2 15))
 
@@ -73,7 +73,7 @@ withLight s p = record {
   lights = set (s .lights) (wordAt p 0) (lightOf p);
 }
 
--- ---- "Well formed: matrices and lights finite, shading mode ≤ 1"
+-- ---- rule 1.10
 unfoldable pub allOf : {A : Type 0} → (A → Bool) → List A → Bool
 allOf f [] = true
 allOf f (x ∷ l) = f x && allOf f l

@@ -1,4 +1,4 @@
--- What the clauses of "well formed" about slots are said of, one by one. Definitions only.
+-- What the clauses of rule 1.12 are said of, one by one. Definitions only.
 use Prim.Native.Nat.{ℕ}
 use Rattle.store.specs.declared.Slot.{Slot}
 

@@ -1,4 +1,4 @@
--- The machine's small state, the fresh one, and when a state is well formed. Document 01, "Lent memory and call answers". Definitions only.
+-- The machine's small state, the fresh one, and when a state is well formed. Definitions only.
 use Prim.Native.Nat.{ℕ, _+_}
 use mathlib.Core.Bool.{Bool, _&&_, _||_}
 use lib.Dec.{eqb, leb, ltb}
@@ -10,11 +10,11 @@ use Rattle.store.specs.Slots.{noSlot, slotsOk}
 use Rattle.store.specs.declared.Kind.the-variants.{Texture, Model}
 use Rattle.state.specs.declared.State.{State}
 
--- "command area 524,291 words", and the most payload words of a command
+-- rule 1.4: the words of the command area, and the most payload words of a command
 abbrev pub mostPayload : ℕ
 mostPayload = 524291
 
--- "The fresh state": the settings', "no uploads, status 0, no command begun"
+-- rule 1.9: fresh settings, no uploads, no command begun, and nothing refused
 abbrev pub fresh : State
 fresh = record {
   settings = settings.fresh;
@@ -26,13 +26,13 @@ fresh = record {
   notes = noNotes;
 }
 
--- "no command begun (opcode, gathered, wanted all 0), or opcode 1..255, wanted ≥ 1 and gathered + wanted ≤ 524,291"
+-- rule 1.11
 unfoldable pub begunOk : ℕ → ℕ → ℕ → Bool
 begunOk opcode gathered wanted =
     (eqb opcode 0 && (eqb gathered 0 && eqb wanted 0))
     || ((ltb 0 opcode && leb opcode 255) && (ltb 0 wanted && leb (gathered + wanted) mostPayload))
 
--- "Well formed", with stores of these lengths. "Status may be anything"
+-- rule 1.13, with stores of these lengths
 unfoldable pub wellFormed : State → ℕ → ℕ → Bool
 wellFormed s textures models =
     settings.settingsOk (s .settings)

@@ -1,4 +1,4 @@
--- Case 12 of document 01's table, and "1 and 80000001 are different textures", of the definitions. antt computes each. Assumes nothing.
+-- Rule 9.12, and that 1 and 80000001 are different numbers (rule 8.3), of the definitions. antt computes each. Assumes nothing.
 use Prim.Native.Nat.{ℕ}
 use mathlib.Core.Path.{_≡_, refl}
 use mathlib.Core.Option.{some}

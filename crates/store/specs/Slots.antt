@@ -1,4 +1,4 @@
--- A store as the machine has it: 64 slots, and the lent words. Document 01, "The stores" and "Well formed". Assumes nothing.
+-- A store as the machine has it: 64 slots, and the lent words. Assumes nothing.
 use Prim.Native.Nat.{ℕ, _+_, _-_, _*_, _/_, max}
 use mathlib.Core.Path.{_≡_}
 use mathlib.Core.Bool.{Bool, true, false, cond, not, _&&_}
@@ -16,30 +16,30 @@ use Rattle.store.specs.declared.Kind.the-variants.{Texture, Model}
 use Rattle.store.specs.declared.Found.{Found}
 use Rattle.store.specs.declared.Found.the-variants.{At, Nothing}
 
--- "A texture takes (width × height + 1) / 2 words .. a model 28n"
+-- rule 8.2: how many words an upload takes
 abbrev pub areaOf : Kind → ℕ → ℕ → ℕ
 areaOf Texture w h = (w * h + 1) / 2
 areaOf Model n h = 28 * n
 
--- "texture sides 1..1024, model counts 1..18,724"
+-- rule 1.12: sides of a texture, and the count of a model
 abbrev pub sidesOk : Kind → ℕ → ℕ → Bool
 sidesOk Texture w h = (ltb 0 w && leb w 1024) && (ltb 0 h && leb h 1024)
 sidesOk Model n h = (ltb 0 n && leb n 18724) && eqb h 0
 
 -- ---- from uploads to slots
--- "unused slots all zero"
+-- rule 1.12: an unused slot
 abbrev pub noSlot : Slot
 noSlot = record { held = false; number = 0; width = 0; height = 0; start = 0 }
 
 abbrev pub slotOf : ℕ → Card → Slot
 slotOf at c = record { held = true; number = c .number; width = c .wide; height = c .high; start = at }
 
--- "areas back to back", here from a word on
+-- areas that follow each other without a gap, here from a word on
 abbrev pub place : ℕ → List Card → List Slot
 place at [] = []
 place at (c ∷ cs) = slotOf at c ∷ place (at + c .words) cs
 
--- "held slots come first", "areas back to back from word 0", and unused slots after them
+-- the slots of these uploads: held slots first, their areas from word 0 on, and unused slots after them
 abbrev pub slotsOf : List Card → List Slot
 slotsOf cs = place 0 cs ++ replicate (slotCount - length cs) noSlot
 
@@ -58,7 +58,7 @@ abbrev pub told : Kind → List Slot → List Card
 told k [] = []
 told k (s ∷ ss) = cond (s .held) (cardAt k s ∷ told k ss) (told k ss)
 
--- "stored as received": the upload of a held slot, its words read from the store
+-- rule 8.2: the upload of a held slot, its words read from the store
 abbrev pub uploadAt : Kind → Slot → List ℕ → Whole
 uploadAt k s store = wholeOf (s .number) (s .width) (s .height) (take (areaOf k (s .width) (s .height)) (drop (s .start) store))
 
@@ -66,7 +66,7 @@ abbrev pub view : Kind → List Slot → List ℕ → List Whole
 view k [] store = []
 view k (s ∷ ss) store = cond (s .held) (uploadAt k s store ∷ view k ss store) (view k ss store)
 
--- the first held slot with the number n
+-- rule 8.3: the first held slot with the number n
 abbrev pub slotFor : ℕ → List Slot → Found
 slotFor n [] = Nothing
 slotFor n (s ∷ ss) = cond (s .held && eqb (s .number) n) (At s) (slotFor n ss)
@@ -85,15 +85,15 @@ abbrev pub stays : ℕ → Slot → Bool
 stays n s = s .held && not (eqb (s .number) n)
 
 -- ---- an accepted upload: the slots, and the words
--- "the new one stands last"
+-- rule 8.6: the new one is the last
 abbrev pub slotsAfter : Card → List Card → List Slot
 slotsAfter c cs = slotsOf (stored c cs)
 
--- words in front, zeros up to an old end that lies further, and "those beyond stay"
+-- rule 8.7: words in front, zeros up to an old end that lies further, and the words beyond
 abbrev pub over : ℕ → List ℕ → List ℕ → List ℕ
 over old front store = front ++ (replicate (old - length front) 0 ++ drop (max old (length front)) store)
 
--- "Words between the new total and a greater old total become zero": n and ws are the new upload's, us the uploads before it
+-- rule 8.7: n and ws are the new upload's, us the uploads before it
 abbrev pub wordsAfter : ℕ → List ℕ → List Whole → List ℕ → List ℕ
 wordsAfter n ws us store = over (total (cards us)) (wordsOf (without n us) ++ ws) store
 
@@ -109,12 +109,12 @@ pub record Uploaded (k : Kind) (ss : List Slot) (store : List ℕ) (u : Whole) (
   pub words : after ≡ cond (isFits (r .room)) (wordsAfter (u .number) (u .words) (view k ss store) store) store
 
 -- ---- well formed
--- "with different numbers": none of the slots, up to the first unused one, has the number n
+-- none of the slots, up to the first unused one, has the number n
 abbrev pub fresh : ℕ → List Slot → Bool
 fresh n [] = true
 fresh n (s ∷ ss) = cond (s .held) (cond (eqb (s .number) n) false (fresh n ss)) true
 
--- "unused slots all zero"
+-- is a slot unused, and all zero?
 abbrev pub zeroSlot : Slot → Bool
 zeroSlot s = not (s .held) && ((eqb (s .number) 0 && eqb (s .width) 0) && (eqb (s .height) 0 && eqb (s .start) 0))
 
@@ -126,7 +126,7 @@ unused (s ∷ ss) = cond (zeroSlot s) (unused ss) false
 abbrev pub heldOk : Kind → ℕ → Slot → List Slot → Bool
 heldOk k at s ss = (sidesOk k (s .width) (s .height) && eqb (s .start) at) && fresh (s .number) ss
 
--- "held slots come first with different numbers, .. areas back to back from word 0 within the lent store; unused slots all zero": slots whose areas begin at a word, in a store of a size
+-- rule 1.12: slots whose areas begin at a word, in a store of a size
 abbrev pub slotsOk : Kind → ℕ → ℕ → List Slot → Bool
 slotsOk k size at [] = leb at size
 slotsOk k size at (s ∷ ss) =

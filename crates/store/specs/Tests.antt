@@ -1,4 +1,4 @@
--- "Well formed" as it is tested, in two walks: where the areas lie, and the numbers. `proofs/Split.antt` shows that both together are `slotsOk`. Assumes nothing.
+-- Rule 1.12 as it is tested, in two walks: where the areas lie, and the numbers. `proofs/Split.antt` shows that both together are `slotsOk`. Assumes nothing.
 use Prim.Native.Nat.{ℕ, suc, _+_}
 use mathlib.Core.Bool.{Bool, true, false, cond, _&&_}
 use mathlib.Core.List.{List, [], _∷_}
@@ -7,7 +7,7 @@ use Rattle.store.specs.Slots.{areaOf, sidesOk, fresh, unused}
 use Rattle.store.specs.declared.Slot.{Slot}
 use Rattle.store.specs.declared.Kind.{Kind}
 
--- "held slots come first .., areas back to back from word 0 within the lent store; unused slots all zero": slots whose areas begin at a word, in a store of a size
+-- all of rule 1.12 but the numbers: slots whose areas begin at a word, in a store of a size
 abbrev pub laidOk : Kind → ℕ → ℕ → List Slot → Bool
 laidOk k size at [] = leb at size
 laidOk k size at (s ∷ ss) =
@@ -15,12 +15,12 @@ laidOk k size at (s ∷ ss) =
     (cond (sidesOk k (s .width) (s .height) && eqb (s .start) at) (laidOk k size (at + areaOf k (s .width) (s .height)) ss) false)
     (unused (s ∷ ss) && leb at size)
 
--- "with different numbers": of the slots up to the first unused one
+-- no two numbers are equal: of the slots up to the first unused one
 abbrev pub differ : List Slot → Bool
 differ [] = true
 differ (s ∷ ss) = cond (s .held) (fresh (s .number) ss && differ ss) true
 
--- "with different numbers": what has to differ
+-- what has to differ
 abbrev pub numberOf : Slot → ℕ
 numberOf s = s .number
 

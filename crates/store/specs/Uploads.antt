@@ -1,4 +1,4 @@
--- Document 01, "The stores", over plain lists: what is held, in the order of the areas, and what a whole history of accepted uploads leaves.
+-- The stores over plain lists: what is held, in the order of the areas, and what a whole history of accepted uploads leaves.
 -- No slot and no place: one text for both kinds. Assumes nothing.
 use Prim.Native.Nat.{ℕ, _+_}
 use mathlib.Core.Bool.{Bool, true, false, cond, not, _&&_}
@@ -40,7 +40,7 @@ module _ {W : Type 0} where
   without n [] = []
   without n (u ∷ us) = cond (eqb (u .number) n) (without n us) (u ∷ without n us)
 
-  -- the first under the number n: of a history, its last accepted upload
+  -- rule 8.3: the first under the number n; of a history, its last accepted upload
   abbrev pub find : ℕ → List (Upload W) → Option (Upload W)
   find n [] = none
   find n (u ∷ us) = cond (eqb (u .number) n) (some u) (find n us)
@@ -48,7 +48,7 @@ module _ {W : Type 0} where
   abbrev pub holds : ℕ → List (Upload W) → Bool
   holds n us = isSome (find n us)
 
-  -- "the old upload goes, later ones close up, and the new one stands last"
+  -- rule 8.6: the old upload goes, later ones close up, and the new one is the last
   abbrev pub stored : Upload W → List (Upload W) → List (Upload W)
   stored u us = without (u .number) us ++ (u ∷ [])
 
@@ -66,19 +66,19 @@ abbrev pub total : List Card → ℕ
 total [] = 0
 total (c ∷ cs) = c .words + total cs
 
--- "a texture store and a model store, each 0 to 16,777,216 words"
+-- rule 1.4: the most words of a store
 abbrev pub mostWords : ℕ
 mostWords = 16777216
 
--- "64 slots each"
+-- rule 8.1
 abbrev pub slotCount : ℕ
 slotCount = 64
 
--- "Words in use is the sum over held numbers", "an old upload of the same number included": what counts against an upload under n
+-- rule 8.4: what counts against an upload under n
 abbrev pub counted : ℕ → List Card → ℕ
 counted n cs = total cs
 
--- bit 6 is set exactly when the number is new and 64 are held, or words in use plus the new words exceed the store
+-- rule 8.5: is there a slot, and are there words enough?
 abbrev pub room : ℕ → List Card → ℕ → ℕ → Room
 room size cs n new =
     cond (not (holds n cs) && leb slotCount (length cs)) NoSlot (cond (ltb size (counted n cs + new)) NoWords Fits)

@@ -184,7 +184,7 @@ fn numbers_differ(slots: [Slot; SLOTS]) -> bool
     ok
 }
 
-// Document 01's "well formed", of a store of `size` words.
+// Rule 1.12, of a store of `size` words.
 pub fn slots_ok(kind: Kind, slots: [Slot; SLOTS], size: usize) -> bool
     ensures { λ r. ⌜ r ≡ slotsOk kind size 0 slots ⌝ }
 {

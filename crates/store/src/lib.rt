@@ -1,5 +1,5 @@
 // The stores of uploads: 64 slots for textures and 64 for models, each over a lent run of words.
-// Document 01, "The stores". What a store decides (room, slots afterwards, well-formedness) is in
+// Section 8 of docs/RULES.md. What a store decides (room, slots afterwards, well-formedness) is in
 // `slots` and `formed` and needs only the slots and the store's length; `words` moves the words.
 pub mod formed;
 pub mod slots;

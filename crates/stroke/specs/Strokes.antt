@@ -1,4 +1,4 @@
--- A float triangle painted: clipped, cut into a fan, each triangle of it rasterised. The end of `draw_transformed_triangle_impl`, `draw_textured_triangle` and `draw_textured_lit_triangle`, document 000. A stroke is complete: its corners are transformed, lit and checked, and a texture's words are in hand. Definitions only.
+-- A float triangle painted: clipped, cut into a fan, each triangle of it rasterised. The end of `draw_transformed_triangle_impl`, `draw_textured_triangle` and `draw_textured_lit_triangle`, the original. A stroke is complete: its corners are transformed, lit and checked, and a texture's words are in hand. Definitions only.
 use Prim.Native.Nat.{ℕ}
 use mathlib.Core.List.{List, [], _∷_}
 use lib.Ieee.{Float}
@@ -27,7 +27,7 @@ triangleOn Blended texels tri s = sheet (transformedPlane tri flat.None (s .dept
 triangleOn (Textured t) texels tri s =
     sheet (texturedPlane tri (t .width) (t .height) texels (t .mode) (t .color) (s .depths) (s .plane)) (texturedDepths tri (s .depths))
 
--- `for i in 1..polygon.len() - 1`
+-- rule 5.7, `for i in 1..polygon.len() - 1`
 unfoldable pub fanOn : Brush → List ℕ → List (List ClipVertex) → Sheet → Sheet
 fanOn brush texels [] s = s
 fanOn brush texels (t ∷ ts) s = fanOn brush texels ts (triangleOn brush texels t s)

@@ -30,7 +30,7 @@ pub from-first : (n : ℕ) (f : ℕ → Float) → T (fits binary32 (f 0)) → l
 from-first zero f t = ap (λ (x : Float). x ⊕ f 0) minus-zero-is ∙ from-minus-zero (f 0) t
 from-first (suc n) f t = ap (λ (x : Float). x ⊕ f (suc n)) (from-first n f t)
 
--- `(0..3).map(|i| normal[i] * to_light[i]).sum::<f32>()`: lines 954 to 956 of document 000, and 959 to 961, 928 and, with a vector's squares, 932
+-- `(0..3).map(|i| normal[i] * to_light[i]).sum::<f32>()`: lines 954 to 956 of the original, and 959 to 961, 928 and, with a vector's squares, 932
 pub dot-sum : (a b : List Float) → librarySum 3 (λ (i : ℕ). at a i · at b i) ≡ dotOf a b
 dot-sum a b = from-first 2 (λ (i : ℕ). at a i · at b i) (mul-fits binary32 (at a 0) (at b 0))
 

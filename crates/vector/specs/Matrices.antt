@@ -1,4 +1,4 @@
--- Matrices of four by four, row by row; the machine's three stand in one list of 48. Document 000's `identity_matrix`, `transform_matrix` and
+-- Matrices of four by four, row by row; the machine's three stand in one list of 48. The original's `identity_matrix`, `transform_matrix` and
 -- `multiply_matrix`. Definitions only.
 use Prim.Native.Nat.{ℕ, _+_}
 use mathlib.Core.List.{List, [], _∷_, _++_}
@@ -19,7 +19,7 @@ identity = record {
 abbrev pub rowOf : List Float → ℕ → List Float → Float
 rowOf m p v = at m p · at v 0 ⊕ at m (p + 1) · at v 1 ⊕ at m (p + 2) · at v 2 ⊕ at m (p + 3) · at v 3
 
--- `transform_matrix`: the matrix that begins at cell p of m, times v
+-- rule 5.2, `transform_matrix`: the matrix that begins at cell p of m, times v
 abbrev pub transformOf : List Float → ℕ → List Float → List Float
 transformOf m p v = rowOf m p v ∷ rowOf m (p + 4) v ∷ rowOf m (p + 8) v ∷ rowOf m (p + 12) v ∷ []
 

@@ -1,4 +1,4 @@
--- The normal matrix. Document 000's `inverse_transpose_3x3` and `apply_normal_matrix`, with the source's letters. Definitions only.
+-- The normal matrix. The original's `inverse_transpose_3x3` and `apply_normal_matrix`, with the source's letters. Definitions only.
 use mathlib.Core.Bool.{cond, not, _&&_}
 use mathlib.Core.List.{List, [], _∷_}
 use lib.Ieee.{Float}
@@ -38,7 +38,7 @@ cofactorsOf m inv = record {
   i = minorOf (m .a) (m .e) (m .b) (m .d) · inv;
 }
 
--- "none when the determinant is not finite or at most 2^-23 in size"
+-- rule 5.3: none if the determinant is not finite or at most 2^-23 in size
 unfoldable pub inverseBy : Float → Matrix3 → Inverse
 inverseBy det m = cond (finite det && not (tinyOf det)) (Of (cofactorsOf m (one32 ⊘ det))) Singular
 

@@ -1,4 +1,4 @@
--- Rust's iterator sums of f32. Document 01, "Library sums run left to right from the first term (as from -0.0)": here they start from -0.0, as the library does. Definitions only.
+-- Rust's iterator sums of f32 (rule 7.2): they start from -0.0, as the library does. Definitions only.
 use Prim.Native.Nat.{ℕ, zero, suc}
 use lib.Ieee.{Float, binary32, ofBits}
 use Rattle.vector.specs.Three.{_⊕_}

@@ -1,4 +1,4 @@
--- Vectors of three floats. Document 000's `normalize`; document 01, "Floats". Definitions only.
+-- Vectors of three floats; `normalize` of the original. Definitions only.
 use mathlib.Core.Bool.{cond, _&&_}
 use mathlib.Core.List.{List, [], _∷_}
 use Prim.Native.Nat.{ℕ}
@@ -8,7 +8,7 @@ use lib.Ieee.Scale.{finite}
 use Rattle.ieee.specs.Units.{zero32, one32}
 use Rattle.ieee.specs.Root.{root}
 
--- the source's +, -, *, / on f32: each result rounded once
+-- rule 7.1: the source's +, -, *, / on f32, each result rounded once
 infixl 75 _⊕_ _⊖_
 infixl 76 _·_ _⊘_
 abbrev pub _⊕_ : Float → Float → Float
@@ -26,7 +26,7 @@ a ⊘ b = div binary32 a b
 abbrev pub at : List Float → ℕ → Float
 at l i = getD l i nan
 
--- "Library sums run left to right from the first term"
+-- rule 7.2
 abbrev pub dotOf : List Float → List Float → Float
 dotOf a b = at a 0 · at b 0 ⊕ at a 1 · at b 1 ⊕ at a 2 · at b 2
 
@@ -34,16 +34,16 @@ dotOf a b = at a 0 · at b 0 ⊕ at a 1 · at b 1 ⊕ at a 2 · at b 2
 abbrev pub epsilon : Float
 epsilon = ofBits binary32 0x3400_0000
 
--- "length not finite or ≤ 2^-23 gives (0, 0, 1)"
+-- rule 7.3: divided by the length l, unless that is not finite or at most 2^-23
 unfoldable pub scaledOf : List Float → Float → List Float
 scaledOf v l = cond (finite l && lt epsilon l) (at v 0 ⊘ l ∷ at v 1 ⊘ l ∷ at v 2 ⊘ l ∷ []) (zero32 ∷ zero32 ∷ one32 ∷ [])
 
--- `normalize`: "normalised with its squares summed and rooted, each operation rounded once"
+-- rule 7.3, `normalize`
 unfoldable pub normalOf : List Float → List Float
 unfolding scaledOf
 normalOf v = scaledOf v (root (dotOf v v))
 
--- "The sixteenth power is four squarings"
+-- rule 7.4
 abbrev pub square : Float → Float
 square x = x · x
 

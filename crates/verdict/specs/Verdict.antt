@@ -1,4 +1,4 @@
--- Why a word or a command was refused, and what that does to the status. Document 01, "Status bits"; the numbers are document 02's, A3. Assumes nothing.
+-- Why a word or a command was refused, and what that does to the status. Assumes nothing.
 use Prim.Native.Nat.{ℕ}
 use mathlib.Core.Bool.{cond}
 use lib.Bits.{bitOr}
@@ -9,7 +9,7 @@ use Rattle.verdict.specs.declared.Notes.{Notes}
 use Rattle.verdict.specs.declared.Verdict.{Verdict}
 use Rattle.verdict.specs.declared.Verdict.the-variants.{Done, Refused}
 
--- "1 zero opcode, 2 count too large, 3 unknown opcode, 4 wrong length, 5 value out of range, 6 not finite, 7 number not held, 8 matrix not invertible, 9 no slot, else 10 no words"
+-- rule 3.5
 abbrev pub numberOf : Reason → ℕ
 numberOf ZeroOpcode = 1
 numberOf CountTooLarge = 2
@@ -22,7 +22,7 @@ numberOf NotInvertible = 8
 numberOf NoSlot = 9
 numberOf NoWords = 10
 
--- "Status bits: 2 zero opcode; 3 refused; 6 no room": the value of the bit that a reason of this number sets
+-- rule 1.14: the value of the bit that a reason of this number sets
 abbrev pub bitFor : ℕ → ℕ
 bitFor n = cond (eqb n 1) 4 (cond (leb n 8) 8 64)
 
@@ -30,19 +30,19 @@ abbrev pub bitsOf : Verdict → ℕ
 bitsOf Done = 0
 bitsOf (Refused r i) = bitFor (numberOf r)
 
--- what refusals leave behind: nothing yet; and after a command, or a header, of this opcode that came to v. "No command clears them"
+-- what refusals leave behind: nothing yet; and, by rule 1.14, after a command, or a header, of this opcode that came to v
 abbrev pub noNotes : Notes
 noNotes = record { status = 0 }
 
 abbrev pub notedOf : Notes → ℕ → Verdict → Notes
 notedOf n opcode v = record { status = bitOr (n .status) (bitsOf v) }
 
--- one check, and where it finds nothing the next
+-- rule 3.4: one check, and if it finds nothing the next
 abbrev pub andThen : Verdict → Verdict → Verdict
 andThen Done v = v
 andThen (Refused reason index) v = Refused reason index
 
--- what a command leaves: the first where it is done, the second where it is refused
+-- rule 3.3: what a command leaves, the first if it is done, the second if it is refused
 abbrev pub whenDone : {A : Type 0} → Verdict → A → A → A
 whenDone Done a b = a
 whenDone (Refused reason index) a b = b

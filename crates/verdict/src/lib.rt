@@ -6,7 +6,7 @@ ghost use Rattle.verdict.specs.declared.Reason.the-variants as reason;
 ghost use Rattle.verdict.specs.declared.Verdict.the-variants as verdict;
 ghost use Rattle.verdict.specs.Verdict.{numberOf, bitFor, bitsOf, notedOf, andThen};
 
-// In the order of document 02's numbers, 1 to 10.
+// In the order of their numbers, 1 to 10 (rule 3.5 of docs/RULES.md).
 pub enum Reason {
     ZeroOpcode,
     CountTooLarge,
@@ -92,7 +92,7 @@ pub fn and_then(first: Verdict, next: Verdict) -> Verdict
     next
 }
 
-// Document 02's number.
+// The number of a reason, rule 3.5.
 pub fn number(reason: Reason) -> u32
     ensures { λ r. ⌜ r ≡ numberOf reason ⌝ }
 {

@@ -1,4 +1,4 @@
--- The public calls: what each answers, and the state and every lent element afterwards. Document 01, "Lent memory and call answers". Definitions only.
+-- The public calls: what each answers, and the state and every lent element afterwards. Definitions only.
 use Prim.Native.Nat.{ℕ, _≤_, _<_}
 use mathlib.Core.Path.{_≡_}
 use mathlib.Core.Bool.{Bool, cond, _&&_}
@@ -49,7 +49,7 @@ pub record Outcome : Type 0 where
 abbrev pub outcome : ℕ → Machine → Outcome
 outcome n m = record { answer = n; machine = m }
 
--- "plane 307,200 bytes; integer depth and float depth 76,800 numbers each; command area 524,291 words; a texture store and a model store, each 0 to 16,777,216 words"
+-- rule 1.4
 pub record Lengths (p d f c t m : ℕ) : Type 0 where
   pub of-plane : p ≡ planeBytes
   pub of-depth : d ≡ pixels
@@ -63,7 +63,7 @@ unfoldable pub lengthsOk : ℕ → ℕ → ℕ → ℕ → ℕ → ℕ → Bool
 lengthsOk p d f c t m =
     eqb p planeBytes && (eqb d pixels && (eqb f pixels && (eqb c mostPayload && (leb t mostWords && leb m mostWords))))
 
--- "1 is tested before 2"
+-- rules 1.5 and 1.6, of a feed: the lengths are tested before the state
 unfoldable pub feed : State → List ℕ → List ℕ → List ℤ → List Float → List ℕ → List ℕ → List ℕ → Outcome
 feed s ws P D F C T M =
     let m : Machine = machine s P D F C T M in
@@ -71,12 +71,12 @@ feed s ws P D F C T M =
     (cond (wellFormed s (length T) (length M)) (outcome 0 (run asBox m ws)) (outcome 2 m))
     (outcome 1 m)
 
--- "Reset zeroes plane and stores, fills integer depth with 2147483647 and float depth with 1.0; the command area is untouched"
+-- rule 1.8
 unfoldable pub cleared : List ℕ → List ℤ → List Float → List ℕ → List ℕ → List ℕ → Machine
 cleared P D F C T M =
     machine fresh (replicate (length P) 0) (farInts (length D)) (farFloats (length F)) C (replicate (length T) 0) (replicate (length M) 0)
 
--- "reset takes no state and returns the fresh one"
+-- rules 1.5 and 1.6, of a reset
 unfoldable pub reset : List ℕ → List ℤ → List Float → List ℕ → List ℕ → List ℕ → Outcome
 reset P D F C T M =
     cond (lengthsOk (length P) (length D) (length F) (length C) (length T) (length M)) (outcome 0 (cleared P D F C T M)) (outcome 1 (machine fresh P D F C T M))

@@ -1,10 +1,10 @@
--- A whole command in the words: its header, then its payload. `proofs/Whole.antt` says what running them comes to. Document 01, "Framing". Definitions only.
+-- A whole command in the words: its header, then its payload. `proofs/Whole.antt` says what running them comes to. Definitions only.
 use Prim.Native.Nat.{ℕ, _+_, _*_}
 use mathlib.Core.List.{List, _∷_, foldl}
 use lib.ListN.{length}
 use Rattle.execute.specs.Control.{Keep, Control}
 
--- "Header: opcode in the top 8 bits, payload count in the low 24", then so many payload words
+-- rule 2.1: the header, then as many payload words as it says
 abbrev pub commandWords : ℕ → List ℕ → List ℕ
 commandWords op payload = (op * 16777216 + length payload) ∷ payload
 

@@ -16,7 +16,7 @@ const PIXELS: usize = 76800;
 
 const MOST_WORDS: usize = 16777216;
 
-// What a call answers: document 01's 0, 1 and 2.
+// What a call answers: 0, 1 and 2 of rule 1.5.
 pub enum Answer {
     Done,
     WrongLength,

@@ -1,4 +1,4 @@
--- The calls as a host in C sees them: the answer's number, the state as plain data, and every lent element afterwards. Document 01, "Lent memory and call answers". Definitions only.
+-- The calls as a host in C sees them: the answer's number, the state as plain data, and every lent element afterwards. Definitions only.
 use Prim.Native.Nat.{ℕ}
 use mathlib.Core.Bool.{cond}
 use mathlib.Core.List.{List, [], _∷_}
@@ -35,13 +35,13 @@ putOut o =
 abbrev pub resetC : List ℕ → List ℤ → List Float → List ℕ → List ℕ → List ℕ → Handed
 resetC P D F C T M = putOut (vpu.reset P D F C T M)
 
--- `vpu_feed`: "1 is tested before 2", and after the lengths a switch above 1 is malformed
+-- rule 1.15, `vpu_feed`: after the lengths a switch above 1 is malformed
 unfoldable pub feedC : VpuState → List ℕ → List ℕ → List ℤ → List Float → List ℕ → List ℕ → List ℕ → Handed
 feedC v ws P D F C T M =
     cond (vpu.lengthsOk (length P) (length D) (length F) (length C) (length T) (length M))
     (cond (switchesOk v) (putOut (vpu.feed (stateIn v) ws P D F C T M)) (handed 2 v P D F C T M))
     (handed 1 v P D F C T M)
 
--- `vpu_pixel`: the number and the "four colour bytes" of its answer
+-- `vpu_pixel`: the number and the four bytes of its answer
 abbrev pub shown : VpuColour → Answered
 shown c = record { number = c .answer; bytes = c .r ∷ c .g ∷ c .b ∷ c .a ∷ [] }

@@ -22,7 +22,7 @@ isOn b = not (eqb b 0)
 abbrev pub isSwitch : ℕ → Bool
 isSwitch b = leb b 1
 
--- document 01, "A light is one record of fifteen finite floats and a switch"
+-- a light: a switch and fifteen floats
 abbrev pub lightIn : VpuLight → Light
 lightIn l = record {
   enabled = isOn (l .enabled);
@@ -43,14 +43,14 @@ lightOut l = record {
   position = l .position;
 }
 
--- document 01, "64 slots each"
+-- a slot
 abbrev pub slotIn : VpuSlot → Slot
 slotIn s = record { held = isOn (s .held); number = s .number; width = s .width; height = s .height; start = s .start }
 
 abbrev pub slotOut : Slot → VpuSlot
 slotOut s = record { held = switchOf (s .held); number = s .number; width = s .width; height = s .height; start = s .start }
 
--- document 01, "The machine's small state travels as one value"
+-- rule 1.15: the state as plain data
 abbrev pub stateIn : VpuState → State
 stateIn v = record {
   settings = record {

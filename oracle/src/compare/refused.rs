@@ -1,4 +1,4 @@
-//! Calls that document 01 refuses: a wrong length (1), a malformed state (2), and 1 where both are wrong. State and memory have
+//! Calls that are refused (rule 1.5): a wrong length (1), a malformed state (2), and 1 where both are wrong. State and memory have
 //! to stay as they are. Beside them, states and lengths at the ends of what is allowed.
 
 use crate::port::{Lengths, Slot, State, MOST_STORE};

@@ -1,4 +1,4 @@
-//! Cases 1 to 11 of document 01's table, as far as a stream inside the domain can show them.
+//! Rules 9.1 to 9.11 of docs/RULES.md, as far as a stream inside the domain can show them.
 
 use super::scene::{clear, corner, plain_texture, Scene, HELD};
 use crate::replay::Stored;
