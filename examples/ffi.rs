@@ -1,5 +1,5 @@
-//! The C interface of `include/vpu.h` for Rust: the structs and the three calls, as they are. The safe wrapper `vpu.rs` takes
-//! this file in, and so does the oracle (`oracle/src/beside/port.rs`).
+//! The C interface of `include/vpu.h` for Rust: the structs and the three calls, as they are. The safe wrapper `vpu.rs`
+//! includes this file, and so does the oracle (`oracle/src/beside/port.rs`).
 
 use std::mem::{offset_of, size_of};
 

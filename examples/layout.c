@@ -1,7 +1,7 @@
 /*
  * Tries the layout of the state across the C interface, field by field.
- *   Outward: a command for each field that words can set. After each command every field has the value that
- *   was sent, or its old one.
+ *   Outward: there is a command for each field that words can set. After each command every field has the
+ *   value that was sent, or its old one.
  *   There and back: a feed that is refused, and one of no words, give back every field as it was.
  *   Inward: a state with one field spoiled is malformed, whichever field it is, and is given back whole.
  * Compiles as C11 and as C++.
@@ -122,7 +122,7 @@ static void answered(vpu_fed fed, uint32_t answer) { same("answer", 0, fed.answe
 
 /* ---- outward ---- */
 
-/* The state that the machine has, and the one that it should have. */
+/* The state that the machine has, and the state that it should have. */
 static vpu_state now, wanted;
 
 static void send(const uint32_t *words, size_t count) {

@@ -1,7 +1,7 @@
 /*
- * How much stack a call takes: streams of words are fed by a thread whose stack was filled with a mark, and
- * the deepest byte that changed is looked for. `stack FILE` reads streams as crates/replay/data has them: a
- * name of 24 bytes, a count, and as many words: call after call a count and its words.
+ * How much stack a call takes. A thread whose stack was filled with a mark feeds streams of words; then the
+ * deepest byte that changed is looked for. `stack FILE` reads streams as crates/replay/data has them: a name of
+ * 24 bytes, a count, and that many words, which are calls, each a count and its words.
  */
 #define _GNU_SOURCE
 #include <pthread.h>
@@ -18,7 +18,7 @@ static uint8_t plane[VPU_PLANE_BYTES];
 static int32_t depth[VPU_PIXELS];
 static float depth_f32[VPU_PIXELS];
 static uint32_t command[VPU_COMMAND_WORDS], textures[STORE], models[STORE];
-static uint32_t *words; /* of the streams, counts and all */
+static uint32_t *words; /* all of the file */
 static size_t count;
 static uintptr_t top; /* where the calls begin */
 

@@ -14,12 +14,12 @@ pub const STORE_WORDS_MOST: usize = 16_777_216;
 const PIXELS: usize = WIDTH * HEIGHT;
 const COMMAND_WORDS: usize = 524_291;
 
-/// Why a call was refused. Nothing has changed then.
+/// Why a call was refused. A refused call changes nothing.
 #[derive(Clone, Copy, Debug, PartialEq, Eq)]
 pub enum Refused {
-    /// A lent length is wrong: of a `Vpu`, a store of more than `STORE_WORDS_MOST` words.
+    /// A lent length is wrong. For a `Vpu` this means a store of more than `STORE_WORDS_MOST` words.
     WrongLength,
-    /// The state is not well formed. That of a `Vpu` always is.
+    /// The state is not well formed. The state of a `Vpu` always is.
     Malformed,
 }
 
@@ -42,7 +42,7 @@ pub struct Vpu {
 }
 
 impl Vpu {
-    /// A machine that is reset, with stores of so many words. There is none where the reset is refused.
+    /// A machine that was just reset, with stores of so many words. There is none if the reset is refused.
     pub fn new(texture_words: usize, model_words: usize) -> Result<Self, Refused> {
         let mut plane = vec![0; PLANE_BYTES];
         let mut depth = vec![0; PIXELS];
@@ -50,7 +50,7 @@ impl Vpu {
         let command = vec![0; COMMAND_WORDS];
         let mut textures = vec![0; texture_words];
         let mut models = vec![0; model_words];
-        // SAFETY: every pointer is that of a vector of its own, with the length beside it.
+        // SAFETY: every pointer is that of a vector of its own, and its length follows.
         let fed = unsafe {
             vpu_reset(
                 plane.as_mut_ptr(),
@@ -71,7 +71,7 @@ impl Vpu {
         Ok(Self { state: fed.state, plane, depth, depth_f32, command, textures, models })
     }
 
-    /// Feeds a run of words. A command that the words got wrong is seen in the status.
+    /// Feeds a run of words. The status shows whether a command was refused.
     pub fn feed(&mut self, words: &[u32]) -> Result<(), Refused> {
         // SAFETY: as in `new`; the words are borrowed for reading, and are none of the vectors.
         let fed = unsafe {

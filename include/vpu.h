@@ -1,28 +1,28 @@
 /*
  * The verified VPU: a plane of 320 by 240 pixels, and command words that paint it. Archive: libvpu_c.a.
  *
- * Three calls. Each takes every value of its arguments and returns. A call owns nothing and keeps nothing:
- * the small state travels by value, and the large memory is the host's, lent for the time of the call.
+ * There are three calls. Each takes every value of its arguments and returns. A call owns nothing and keeps
+ * nothing: the small state travels by value, and the large memory is the host's, lent for the time of the call.
  *
  *     vpu_fed fed = vpu_reset(plane, VPU_PLANE_BYTES, depth, VPU_PIXELS, depth_f32, VPU_PIXELS,
  *                             command, VPU_COMMAND_WORDS, textures, texture_words, models, model_words);
  *     if (fed.answer == VPU_DONE)
  *         fed = vpu_feed(fed.state, words, count, plane, VPU_PLANE_BYTES, ...);
  *
- * What stays with the host, since no call can test it:
- *   - each pointer is aligned and points to as many initialised elements as the length after it says; one
- *     with the length 0 is not read or written through, and is not null either;
- *   - no two of the buffers lent to one call overlap, the words of a feed among them;
+ * The host has to see to this, since no call can test it:
+ *   - each pointer is aligned and points to as many initialised elements as the length after it says; if the
+ *     length is 0, nothing is read or written through the pointer, but it is not null either;
+ *   - no two of the buffers lent to one call overlap, and the words of a feed overlap none of them;
  *   - nothing else reads or writes them while the call runs;
- *   - floats round to nearest, and subnormals are kept: the processor's state at the start of a program. A host
- *     that is linked with -ffast-math has another, as has one that changes the rounding;
+ *   - floats round to nearest, and subnormals are kept: the processor's state at the start of a program. It is
+ *     another if the host is linked with -ffast-math or changes the rounding;
  *   - 64 kilobytes of stack are left (the calls took 41 at most on the stored streams: examples/stack.c);
  *   - the compiler lays the structs below out as the archive's does (examples/layout.c tries every field);
  *   - from a reset answered 0 on, each feed gets the state that the call before it gave back, and the memory
  *     as that call left it. (A host may change either: every call still has an answer, and does to that
  *     memory what the rules say. But then it is not drawing what its words say.)
  *
- * Words may be cut into calls anywhere. A call costs about a microsecond, so that a host sends what it has in one.
+ * Words may be cut into calls anywhere. A call costs about a microsecond, so send many words in one call.
  */
 #ifndef VPU_H
 #define VPU_H
@@ -41,7 +41,7 @@ extern "C" {
 #define VPU_PIXELS           76800    /* numbers of each depth: VPU_WIDTH * VPU_HEIGHT */
 #define VPU_PLANE_BYTES      307200   /* bytes of the plane: r, g, b, a of each pixel, row by row */
 #define VPU_COMMAND_WORDS    524291   /* words of the command area, and the most payload words of a command */
-#define VPU_STORE_WORDS_MOST 16777216 /* a store has 0 to so many words, as the host likes */
+#define VPU_STORE_WORDS_MOST 16777216 /* a store has 0 to this many words, as the host likes */
 
 #define VPU_MATRIX_FLOATS 48 /* model, view and projection, 16 floats each, row by row */
 #define VPU_LIGHTS        8
@@ -55,7 +55,7 @@ extern "C" {
 
 /* ---- bits of the status ---- */
 
-/* Words set them and never clear them; all other bits stay as the host gave them. */
+/* Words set these bits and never clear them; all other bits stay as the host gave them. */
 
 #define VPU_STATUS_ZERO_OPCODE 0x04u /* bit 2: a header with opcode 0 was dropped */
 #define VPU_STATUS_REFUSED     0x08u /* bit 3: a command or a header was refused */
@@ -84,15 +84,15 @@ typedef struct vpu_slot {
 } vpu_slot;
 
 /*
- * Plain data without pointers: it may be copied, stored, sent elsewhere and read. A state that a call
- * answered 0 gave back is well formed for stores of the same lengths; a host that writes fields itself learns
- * from the next answer whether it still is.
+ * Plain data without pointers: it may be copied, stored, sent elsewhere and read. A state that came back with
+ * the answer 0 is well formed for stores of the same lengths. If a host writes fields itself, the next answer
+ * says whether the state still is.
  *
  * Three bytes of padding follow each switch (lighting_enabled, every enabled, every held). A call leaves
- * anything in them, so memcmp can tell two equal states apart: compare field by field, or copy both states,
- * field by field, into memory that was zeroed before. A float compared as bytes tells 0.0 from -0.0, which
- * are different settings; a NaN is never well formed, and where a refused call gives one back its bits need
- * not be the same.
+ * anything in them, so memcmp may find two equal states different. Compare field by field, or copy both states,
+ * field by field, into memory that was zeroed before. Floats compared as bytes distinguish 0.0 from -0.0, which
+ * are different settings. A NaN is never well formed; if a refused call gives one back, its bits need not be
+ * the same.
  */
 typedef struct vpu_state vpu_state;
 struct vpu_state {
@@ -103,7 +103,7 @@ struct vpu_state {
     vpu_slot textures[VPU_SLOTS];
     vpu_slot models[VPU_SLOTS];
     uint32_t opcode;   /* the begun command, or 0 */
-    uint32_t gathered; /* payload words that stand in the command area */
+    uint32_t gathered; /* payload words that are in the command area */
     uint32_t wanted;   /* payload words still missing */
     uint32_t status;
 };
@@ -151,7 +151,7 @@ vpu_fed vpu_feed(vpu_state state, const uint32_t *words, size_t words_length, ui
 
 /*
  * Reads a pixel. Lent for reading: the plane, which the host may as well read by itself.
- *   0: its four bytes, or four zeros where x >= VPU_WIDTH or y >= VPU_HEIGHT.
+ *   0: its four bytes, or four zeros if x >= VPU_WIDTH or y >= VPU_HEIGHT.
  *   1: the plane's length is wrong; four zeros.
  */
 vpu_colour vpu_pixel(const uint8_t *plane, size_t plane_length, size_t x, size_t y);

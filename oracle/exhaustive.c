@@ -2,8 +2,8 @@
    machine's own operations. One line per function: name, patterns, differences, first differing pattern.
    With --only NAME: that function alone.
    With --time: nanoseconds per call of the root and of the cast to a byte, beside the machine's own.
-   NaNs count as one value, and are told by their bits: a compiler may drop a test that only picks
-   between two NaNs. */
+   NaNs count as one value, and are recognised by their bits: a compiler may drop a test that only
+   picks between two NaNs. */
 #include <float.h>
 #include <math.h>
 #include <pthread.h>
@@ -181,8 +181,8 @@ static int compare_all(const char *only) {
 
 /* ---- The times
 
-   A chain goes through the whole list too: on a short cycle of values every branch would be foreseen,
-   and a branch that is foreseen cuts a chain. */
+   A chain, too, goes through the whole list: on a short cycle of values every branch would be predicted,
+   and a branch that is predicted cuts a chain. */
 
 enum { VALUES = 1 << 12, TURNS = 1 << 12, CALLS = VALUES * TURNS };
 

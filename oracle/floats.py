@@ -138,7 +138,7 @@ def sqrt(x):
 
 
 def order(x):
-    """A whole number that stands as x does among all values; both zeros are 0."""
+    """A whole number, in the same order as the values; both zeros are 0."""
     return -(x & 0x7FFFFFFF) if negative(x) else x
 
 
@@ -391,7 +391,7 @@ def in_box(screen, axis, at, size):
 
 
 def bary_at(s, x, y):
-    """The three weights by the area, or None where the pixel is not covered."""
+    """The three weights divided by the area, or None if the pixel is not covered."""
     if not (in_box(s.screen, 0, x, WIDTH) and in_box(s.screen, 1, y, HEIGHT)):
         return None
     px, py = add(from_int(x), HALF), add(from_int(y), HALF)
@@ -403,7 +403,7 @@ def bary_at(s, x, y):
 
 
 def depth_at(s, bary, old):
-    """The pixel's depth, or None where it does not replace the old one. NaN does."""
+    """The pixel's depth, or None if it does not replace the old one. NaN does."""
     z = dot(bary, s.depth)
     return None if lt(z, ZERO) or lt(ONE, z) or le(old, z) else z
 
@@ -421,7 +421,7 @@ def color_bytes(color):
 
 
 def rasterize_transformed_triangle(tri, flat, x, y, old):
-    """None, or the depth stored and the four bytes written, which are None where only the depth is."""
+    """None, or the depth stored and the four bytes written, which are None if only the depth is stored."""
     hit = covered(tri, scale_once, x, y, old)
     if hit is None:
         return None
@@ -583,7 +583,7 @@ def byte_steps():
 
 def tie_roots():
     """Patterns whose root is as near as any to the middle of two floats: m² + m - r with r small,
-    where that is 24 digits and zeros after them. m is found digit by digit."""
+    if that is 24 digits and zeros after them. m is found digit by digit."""
     found = []
     for zeros in (23, 24):
         for r in range(-120, 121, 2):
@@ -623,7 +623,7 @@ def drawing(seed):
 
 
 def everyday(x):
-    """A pattern of magnitude 2^-9 to 2^23, made of any."""
+    """A pattern of magnitude 2^-9 to 2^23, made of any pattern."""
     return (x & SIGN) + 0x3B000000 + x % 0x10000000
 
 

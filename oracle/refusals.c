@@ -1,6 +1,6 @@
 // What only a host with memory of its own can lend: stores of the greatest length and of one word more, a command area
-// of one word more, and switches that are neither 0 nor 1. A call that is refused must answer by number and leave the state and all memory as they
-// were. Linked with the archive of the crate vpu_c; oracle/refusals builds it.
+// of one word more, and switches that are neither 0 nor 1. A call that is refused must answer the right number and leave
+// the state and all memory as they were. Linked with the archive of the crate vpu_c; oracle/refusals builds it.
 #include <stdbool.h>
 #include <stdio.h>
 #include <stdlib.h>
@@ -72,7 +72,7 @@ static bool untouched(size_t words) {
            marked(memory.textures, words * sizeof(uint32_t)) && marked(memory.models, words * sizeof(uint32_t));
 }
 
-// Field by field: what stands between the fields is nobody's.
+// Field by field: the padding between the fields does not count.
 static bool same_lights(const light *a, const light *b) {
     for (int i = 0; i < 8; i++) {
         if (a[i].enabled != b[i].enabled || memcmp(a[i].ambient, b[i].ambient, 15 * sizeof(float)) != 0) return false;
@@ -96,7 +96,7 @@ static bool same(const state *a, const state *b) {
 
 static int wrong = 0;
 
-// A line: what was lent, the answer, whether anything changed, and whether that is what rules 1.5 and 1.6 say.
+// Prints what was lent, the answer, whether anything changed, and whether that is what rules 1.5 and 1.6 say.
 static void say(const char *what, uint32_t answer, bool changed, uint32_t expected) {
     bool right = answer == expected && changed == (expected == 0);
     printf("%s: %u, %s%s\n", what, (unsigned)answer, changed ? "changed" : "nothing changed", right ? "" : " WRONG");
@@ -188,7 +188,7 @@ static void switches(state fresh, uint8_t value) {
     wrong += (malformed != SWITCHES) + (lent != SWITCHES);
 }
 
-// The limit: every switch at 1, the slots with it held and filled.
+// The limit: every switch is 1, so every slot is held and filled.
 static void switched_on(state s) {
     s.lighting_enabled = 1;
     for (int i = 0; i < 8; i++) s.lights[i].enabled = 1;

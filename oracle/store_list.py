@@ -1,8 +1,8 @@
 #!/usr/bin/env python3
 """The stores (docs/RULES.md, section 8), by a plain list of what is held. Writes crates/store_test/stdin and stdout.
 
-A list entry is (number, width, height, words). There are no slots here: where a digest of slots is printed,
-they are made up from the list, in its order, their areas back to back.
+A list entry is (number, width, height, words). There are no slots here: when a digest of slots is printed,
+the slots are made up from the list, in its order, with their areas back to back.
 """
 import os
 import random

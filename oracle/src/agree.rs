@@ -28,7 +28,7 @@ extern "C" {
 
 type Room = [f32; ROOM];
 
-/// The functions that always write the same number of floats, which is the answer here.
+/// Calls a function that always writes the same number of floats, and returns that number.
 fn written(function: &str, floats: &[f32], room: &mut Room) -> usize {
     let (x, length, out) = (floats.as_ptr(), floats.len(), room.as_mut_ptr());
     // SAFETY: records have the lengths that the exports ask for, and `room` is long enough for every answer.

@@ -1,4 +1,4 @@
-//! What stands after the subcommand: plain arguments, and options with a value each.
+//! What comes after the subcommand: plain arguments, and options with a value each.
 
 pub struct Arguments {
     plain: Vec<String>,

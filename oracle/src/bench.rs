@@ -28,7 +28,7 @@ use works::Work;
 /// The least time of a pass, in nanoseconds.
 const PASS: u64 = 20_000_000;
 
-/// Enough for each work.
+/// Stores that are enough for each work.
 const START: Start = Start { stores: [1_200_000; 2], status: 0 };
 
 #[repr(C)]
@@ -38,7 +38,7 @@ struct Timespec {
 }
 
 extern "C" {
-    /// Of C's library; the clock 2 is what this process has used of a processor.
+    /// From C's library. Clock 2 is the processor time that this process has used.
     fn clock_gettime(clock: i32, time: *mut Timespec) -> i32;
 }
 
@@ -50,7 +50,7 @@ fn now() -> u64 {
     time.seconds as u64 * 1_000_000_000 + time.nanoseconds as u64
 }
 
-/// What is timed of either side.
+/// What is timed, for either side.
 trait Side {
     fn feed(&mut self, words: &[u32]);
 
@@ -70,7 +70,7 @@ trait Side {
         spent
     }
 
-    /// Rounds that take long enough. The first of them also touches all memory that the work uses.
+    /// How many rounds take long enough. The first of them also touches all memory that the work uses.
     fn rounds(&mut self, work: &Work) -> u64 {
         let mut rounds = 1;
         while self.pass(work, rounds) < PASS {
@@ -112,7 +112,7 @@ fn time(port: &mut Port, work: &Work, passes: u64) -> Result<[f64; 2], String> {
     Ok([0, 1].map(|side| best[side] as f64 / (rounds[side] * work.count as u64) as f64))
 }
 
-/// Nearly all draws of a work have to change a pixel, and none of a work that is refused.
+/// Nearly all draws of a work have to change a pixel. If they are refused, none may.
 fn see(work: &Work) -> Result<(), String> {
     let (mut judge, mut watch) = (Judge::new(), Watch::default());
     judge.reset(START);
@@ -180,24 +180,24 @@ fn print_machine(arguments: &Arguments) -> Result<(), String> {
     Ok(())
 }
 
-const HEAD: &str = "Port and original stand in one process and are fed the same words; times are processor time.
-A pass is as many rounds as take at least 20 milliseconds, and a figure is the best pass. The sides take turns, pass by pass, and after
-each work plane, both depths and status have to be the same. What a work uploads or sets first, and clears of the depths between rounds, are not
-counted. All memory that a work uses has been touched before, so that the first use of a page is not counted; what the original allocates for
-each command is.
+const HEAD: &str = "Port and original are in one process and are fed the same words. Times are processor time.
+A pass is as many rounds as take at least 20 milliseconds, and a figure is the best pass. The sides take turns, pass by pass. After each work,
+plane, both depths and status have to be the same. What a work uploads or sets first is not counted, and neither are clears of the depths between
+rounds. All memory that a work uses has been touched before, so the first use of a page is not counted. What the original allocates for each
+command is counted.
 
 This page is made by the program. `docs/SPEED.md` has what was changed for speed, what was tried, and which run this is.
 ";
 
-const ABOUT_WORKS: &str = "Triangles fill half their box, wherever on the screen, and each is nearer than those before it, so that it is seen: 100 in a
-round, in boxes of 2,000 pixels where no other size is said. Lit means two lights. 14 is never lit. A draw
+const ABOUT_WORKS: &str = "Triangles fill half their box and are anywhere on the screen. Each is nearer than those before it, so that it is seen.
+A round has 100, in boxes of 2,000 pixels if no other size is given. Lit means two lights. 14 is never lit. A draw
 that is refused stops at the first check that fails, on both sides. A call of one word pays for the state,
-which travels by value and is tested whole (3 kilobytes, 128 slots); a host feeds what it has in one call.
+which travels by value and is tested whole (3 kilobytes, 128 slots). So a host feeds what it has in one call.
 ";
 
 const ABOUT_GROWTH: &str = "## Growth
 
-The same for sizes that grow, with the time for a word, a pixel of the box or a triangle: it stays level or falls where the cost is linear.
+The same for sizes that grow, with the time for a word, a pixel of the box or a triangle. If the cost is linear, it stays level or falls.
 ";
 
 fn run() -> Result<(), String> {

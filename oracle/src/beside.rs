@@ -1,5 +1,5 @@
-//! Feeds streams to the port and to the original, in one process, and compares answer, status, plane and both depths
-//! after each call, every NaN as one value. Linked with the archive of the crate `vpu_c`; `oracle/streams` builds it.
+//! Feeds streams to the port and to the original, in one process, and compares answer, state, plane, both depths and both
+//! stores after each call, every NaN as one value. Linked with the archive of the crate `vpu_c`; `oracle/streams` builds it.
 //!   streams --profile P|all [--count N] [--seed S] [--out FILE]
 //!   streams --singles N [--seed S] [--out FILE]
 
@@ -23,7 +23,7 @@ use vpu_oracle::watch::Watch;
 
 const SINGLE: Start = Start { stores: [65_536; 2], status: 0 };
 
-/// Single draws on the same machine, at most.
+/// How many single draws at most are made on the same machine.
 const BATCH: usize = 16;
 
 fn compare_profile(profile: &Profile, seed: u64, count: u64, file: &str) -> Result<bool, String> {
@@ -66,7 +66,7 @@ impl Kinds {
         self.0[place][1] += changed as u64;
     }
 
-    /// Whether more than half of all changed a pixel.
+    /// Prints the counts; returns whether more than half of all changed a pixel.
     fn print(&self) -> bool {
         for (opcode, [draws, changed]) in KINDS.iter().zip(self.0) {
             println!("{opcode:02x} {draws:9} draws, {changed:9} changed a pixel");
@@ -81,7 +81,7 @@ impl Kinds {
 /// The clear before a draw on a machine that was used before.
 const CLEAR: [u32; 4] = [0x0400_0003, 3, 0x1357_9b00, 0];
 
-/// Feeds the settings and then the draw, after which both sides are compared; what differs, and whether the plane changed.
+/// Feeds the settings and then the draw, and compares both sides; returns what differs, and whether the plane changed.
 fn compare_single(sides: &mut Sides, settings: &[u32], draw: &[u32]) -> (Option<String>, bool) {
     let watch = &mut Watch::default();
     let answer = sides.prepare(settings, watch);

@@ -120,7 +120,7 @@ fn clip(words: &[u32]) -> Result<Vec<u32>, String> {
     Ok(counted(&call_clip_polygon(&vertices(rest)?, plane_number(*plane)?)))
 }
 
-/// The original has this loop inside its draws, where it leaves as soon as two vertices or fewer are left.
+/// The original has this loop inside its draws, and ends the draw as soon as two vertices or fewer are left.
 fn clip_all(words: &[u32]) -> Result<Vec<u32>, String> {
     expect(words, 48)?;
     let mut polygon = vertices(words)?;

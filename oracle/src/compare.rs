@@ -38,7 +38,7 @@ struct Totals {
 }
 
 impl Totals {
-    /// The call at which something differs, and what.
+    /// Returns the call at which something differs, and what.
     fn run(&mut self, sides: &mut Sides, case: &mut Case) -> Option<(usize, String)> {
         if let Some(what) = sides.reset(case.start) {
             return Some((0, what));
@@ -94,7 +94,7 @@ const REASONS: [(Reason, &str); 8] = [
     (Reason::NoWords, "no words"),
 ];
 
-/// One line of the table; what can occur and did not goes to `missing`.
+/// Prints one line of the table. What can occur and did not goes to `missing`.
 fn print_row(watch: &Watch, row: Row, missing: &mut Vec<String>) {
     print!("{:8} {:>9}", row.0, watch.count(row, None));
     if watch.count(row, None) == 0 {

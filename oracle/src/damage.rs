@@ -78,7 +78,7 @@ pub fn unknown_opcode(random: &mut Random) -> u8 {
     random.pick(&UNKNOWN_OPCODES)
 }
 
-/// Up to three words anywhere are lost, too many, or others; what follows may then be framed differently.
+/// Up to three words anywhere are lost, inserted or changed; what follows may then be framed differently.
 pub fn spoil(stream: &mut Stream, random: &mut Random) {
     for _ in 0..1 + random.below(3) {
         let place = random.below(stream.words.len() as u32) as usize;

@@ -36,7 +36,7 @@ impl<T: PartialEq + Clone> Remembered<T> {
     }
 }
 
-/// The digests of plane, integer depths and float depths, taken after one call after another.
+/// The digests of plane, integer depths and float depths, taken after each call in turn.
 #[derive(Default)]
 pub struct Digests {
     plane: Remembered<u8>,

@@ -80,7 +80,7 @@ pub fn translation(by: [f32; 3]) -> Matrix {
     matrix
 }
 
-/// By a random quaternion.
+/// A rotation by a random quaternion.
 pub fn rotation(random: &mut Random) -> Matrix {
     let [x, y, z] = random.floats(-1.0, 1.0);
     let w = random.float(0.25, 1.0);
@@ -97,7 +97,7 @@ pub fn rotation(random: &mut Random) -> Matrix {
     matrix
 }
 
-/// Depths -1 to 1 go to 0 to 1; nothing grows smaller with distance.
+/// Depths -1 to 1 become 0 to 1; nothing grows smaller with distance.
 pub fn orthographic() -> Matrix {
     let mut matrix = diagonal(1.0, 1.0, 0.5, 1.0);
     matrix[11] = 0.5;

@@ -1,6 +1,6 @@
 //! The judge of a run: the original, with what the rules refuse and the original does not (flat triangles beyond 8192,
 //! uploads without room) withheld from it. It frames the words itself and hands over whole commands; status, slots and the
-//! command area are its own. Every command's reason is held against what the original makes of the command.
+//! command area are its own. The reason for every command is compared with what the original makes of the command.
 
 use crate::kept::{List, Upload};
 use crate::original::Vpu;
@@ -44,7 +44,7 @@ impl Judge {
         }
     }
 
-    /// All but the command area.
+    /// Resets all but the command area.
     pub fn reset(&mut self, start: Start) {
         let [textures, models] = start.stores.map(List::new);
         (self.original, self.textures, self.models) = (Vpu::new(), textures, models);
@@ -53,7 +53,7 @@ impl Judge {
         self.seen.changed(&self.original);
     }
 
-    /// What was misread, if anything.
+    /// Returns what was misread, if anything.
     pub fn feed(&mut self, words: &[u32], watch: &mut Watch) -> Option<String> {
         let mut misread = None;
         for word in words {
@@ -86,7 +86,7 @@ impl Judge {
         self.end(&command, reason, watch)
     }
 
-    /// A whole command, or a header that is dropped, and why it is refused.
+    /// Takes a whole command, or a header that is dropped, and why it is refused. Returns what was misread.
     fn end(&mut self, words: &[u32], reason: Option<Reason>, watch: &mut Watch) -> Option<String> {
         let opcode = (words[0] >> 24) as u8;
         let bit = reason.map_or(0, Reason::bit);

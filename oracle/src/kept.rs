@@ -30,7 +30,7 @@ impl List {
         self.held.iter().map(|upload| upload.words.len()).sum()
     }
 
-    /// Whether an upload of so many words under this number has no room.
+    /// Why an upload of so many words under this number has no room, if it has none.
     pub fn refusal(&self, number: u32, words: usize) -> Option<Reason> {
         if self.find(number).is_none() && self.held.len() == MOST_HELD {
             return Some(Reason::NoSlot);
@@ -43,7 +43,7 @@ impl List {
         self.held.push(upload);
     }
 
-    /// The 64 slots that tell it: held, number, sides, start.
+    /// The list as 64 slots: held, number, sides, start.
     pub fn slot_words(&self) -> Vec<u32> {
         let (mut words, mut start) = (Vec::new(), 0);
         for Upload { number, sides, words: kept } in &self.held {

@@ -1,4 +1,4 @@
-//! Makes commands that mostly can be seen: it remembers the camera and what was uploaded.
+//! Makes commands whose result can mostly be seen: it remembers the camera and what was uploaded.
 
 use crate::floats;
 use crate::random::Random;

@@ -2,7 +2,7 @@
 //! the machine and over whole numbers; all three are compared bit for bit, every NaN as one value.
 //!   pairs run [--pairs N] [--seed S]     compares on N pairs, half of them made on purpose
 //!   pairs list [--pairs N] [--seed S]    prints the first N of those made on purpose
-//!   pairs known <LINES                   holds the whole numbers' answers to a list: both floats and four answers a line
+//!   pairs known <LINES                   compares the whole numbers' answers with a list: both floats and four answers a line
 //! The seed determines the pairs, however many threads there are. `oracle/exhaustive` builds and runs it.
 
 #[allow(dead_code)]
@@ -54,7 +54,7 @@ fn whole_numbers(x: u32, y: u32) -> [Rounded; 4] {
 
 // ---- Pairs
 
-/// The pairs of a chunk, one after another, with the family of those made on purpose: every second one.
+/// The pairs of a chunk, one after another. Every second one is made on purpose, and comes with its family.
 struct Chunk {
     random: Random,
     index: u64,

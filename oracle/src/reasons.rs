@@ -1,5 +1,5 @@
-//! Why a command is refused, by a plain reading of its words. The rules are those of docs/RULES.md; the reasons and the order in
-//! which they are looked for are those of request A3, a transformed position that is not finite apart.
+//! Why a command is refused, by a plain reading of its words. The rules are those of docs/RULES.md. The reasons, and the
+//! order in which they are looked for, are those of request A3, except for a transformed position that is not finite.
 
 use crate::kept::List;
 use crate::original::{call_inverse_transpose_3x3, call_multiply_matrix, call_transform_matrix, Vpu};
@@ -33,8 +33,8 @@ impl Reason {
     }
 }
 
-/// What a row of the counts is about, and the reasons that it has. Headers that are dropped and opcodes that no command has are
-/// a row each.
+/// What a row of the counts is about, and the reasons that it has. Headers that are dropped have a row, and opcodes that
+/// no command has.
 pub type Row = (&'static str, &'static [Reason]);
 
 pub const HEADERS: Row = ("header", &[ZeroOpcode, CountTooLarge]);
@@ -63,7 +63,7 @@ pub fn row(opcode: u8, reason: Option<Reason>) -> Row {
     }
 }
 
-/// What a command is read against: the original for its matrices, and the lists of what is held.
+/// What a reading needs besides the command: the original for its matrices, and the lists of what is held.
 pub struct Reader<'a> {
     pub vpu: &'a Vpu,
     pub textures: &'a List,
@@ -78,7 +78,7 @@ fn finite(words: &[u32]) -> Option<Reason> {
     when(words.iter().any(|word| word & 0x7f80_0000 == 0x7f80_0000), NotFinite)
 }
 
-/// Whether a command has so many payload words at all.
+/// The reason if the command cannot have so many payload words.
 fn length(opcode: u8, count: usize) -> Option<Reason> {
     let right = match opcode {
         0x01 | 0x1b => count == 2,
@@ -125,7 +125,7 @@ impl Reader<'_> {
         when(end.iter().any(|value| !value.is_finite()), Position)
     }
 
-    /// The inputs of all corners, whose last word is a colour, before any transformed position.
+    /// Tests the inputs of all corners, whose last word is a colour, before any transformed position.
     fn transformed(&self, p: &[u32], stride: usize) -> Option<Reason> {
         let mut corners = p.chunks(stride);
         corners
@@ -163,7 +163,7 @@ impl Reader<'_> {
             .or_else(|| self.models.refusal(p[0], words as usize))
     }
 
-    /// The first refused record's reason; the others are drawn all the same.
+    /// The reason of the first refused record; the others are still drawn.
     fn draw_model(&self, p: &[u32]) -> Option<Reason> {
         if p[1] > 2 {
             return Some(OutOfRange);

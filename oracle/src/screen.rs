@@ -55,7 +55,7 @@ pub fn list(arguments: &Arguments) -> Result<(), String> {
         vpu.feed(&stream.words);
         println!("{:016x} {}", digests.take(&vpu)[0], pixel_texts(&vpu).join(" "));
     }
-    // The original's plane is its own; what a lent one of the wrong length answers is rule 1.6 of docs/RULES.md.
+    // The original owns its plane. The answer for a lent plane of the wrong length is rule 1.6 of docs/RULES.md.
     println!("a plane of 96 bytes: wrong length");
     let [_, depth, depth_f32] = digests.take(&vpu);
     println!("{depth:016x} {depth_f32:016x}");

@@ -47,7 +47,7 @@ fn flat_reach(random: &mut Random) -> i32 {
     }
 }
 
-/// On the screen, or for one in eight about a side of it.
+/// On the screen; one in eight is about a side of it.
 fn middle(random: &mut Random, reach: i32) -> [i32; 2] {
     let mut at = [random.between(0, 319), random.between(0, 239)];
     if random.chance(12) {
@@ -124,14 +124,14 @@ pub fn out_of_reach(words: &[u32]) -> Option<usize> {
 
 // Triangles of floats
 
-/// Three corners, and the colour for those that are drawn in one.
+/// Three corners, and the colour for triangles that are drawn in one colour.
 #[derive(Clone, Copy)]
 pub struct Shape {
     pub corners: [VertexFloats; 3],
     pub color: [f32; 4],
 }
 
-/// A coordinate that is projected exactly onto the middle of pixel k, where there is one.
+/// A coordinate that is projected exactly onto the middle of pixel k, if there is one.
 fn centred(k: i32, side: f32) -> f32 {
     let wanted = k as f32 + 0.5;
     let near = wanted / (side * 0.5) - 1.0;
@@ -143,7 +143,7 @@ fn placed(x: f32, y: f32) -> [f32; 2] {
     [x / (WIDTH * 0.5) - 1.0, 1.0 - y / (HEIGHT * 0.5)]
 }
 
-/// Places in the view, from -1 to 1 where they are on the screen.
+/// Places in the view; those from -1 to 1 are on the screen.
 fn places(random: &mut Random, family: u64) -> [[f32; 2]; 3] {
     let reach = match family {
         10 if random.chance(20) => random.float(40.0, 120.0),
@@ -179,14 +179,14 @@ fn places(random: &mut Random, family: u64) -> [[f32; 2]; 3] {
     at
 }
 
-/// Near the line through the first two, or on it; or all but at one of them.
+/// Near the line through the first two, or on it; or almost at one of them.
 fn sliver(random: &mut Random, at: [[f32; 2]; 3]) -> [f32; 2] {
     let along = random.float(-1.0, 2.0);
     let off = random.pick(&[0.0, 1e-7, 1e-6, 1e-4, 1e-3, 5e-3, 1e-2, 1e-2]);
     [0, 1].map(|axis| at[0][axis] + along * (at[1][axis] - at[0][axis]) + off * random.float(-1.0, 1.0))
 }
 
-/// The depth that is stored, for a corner: what the position has is this times w.
+/// The depth that is stored for each corner; the position has this times w.
 fn depths(random: &mut Random) -> [f32; 3] {
     match random.below(20) {
         0 => random.floats(-0.5, 0.5),
@@ -232,7 +232,7 @@ fn texture_place(random: &mut Random) -> [f32; 2] {
     }
 }
 
-/// A triangle of clipped vertices. What no rasteriser reads is filled all the same.
+/// A triangle of clipped vertices. What no rasteriser reads is filled too.
 pub fn shape(name: &str, seed: u64, index: u64) -> Shape {
     let random = &mut Random::named(name, seed, index);
     let family = index % 15;
@@ -257,7 +257,7 @@ pub fn shape(name: &str, seed: u64, index: u64) -> Shape {
     Shape { corners, color: color(random) }
 }
 
-// Either
+// A triangle of either kind
 
 pub enum Triangle {
     Words([u32; 11]),
@@ -286,7 +286,7 @@ impl Triangle {
         }
     }
 
-    /// The rows that it can touch, first and one past the last: all where a place is not finite.
+    /// The rows that it can touch, first and one past the last: all rows if a place is not finite.
     pub fn rows(&self) -> (usize, usize) {
         let ys = match self {
             Self::Words(words) => [1, 4, 7].map(|at| words[at] as i32 as f32),

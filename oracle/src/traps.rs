@@ -1,4 +1,4 @@
-//! Records that stand first in the fixed list: what a reader may expect otherwise, chosen by hand.
+//! The first records of the fixed list, chosen by hand: what a reader may expect otherwise.
 
 use crate::vertices::record;
 

@@ -67,7 +67,7 @@ impl Port {
         Self { plane: vec![0; 4 * PIXELS], depth: vec![i32::MAX; PIXELS], depth_f32: vec![1.0; PIXELS] }
     }
 
-    /// What `triangle_flat` answers, 0 for the others. All lengths are those that the contracts ask for.
+    /// Returns what `triangle_flat` answers, 0 for the others. All lengths are those that the contracts ask for.
     fn draw(&mut self, triangle: &Triangle, kind: Kind, texture: &Texture) -> u32 {
         match triangle {
             Triangle::Words(words) => self.draw_flat(words),
@@ -196,8 +196,8 @@ fn texture_for(textures: &[Texture], kind: Kind, index: u64) -> &Texture {
     }
 }
 
-/// After each triangle the rows that it can touch are compared, which finds the triangle that differs; at the end of
-/// each batch everything is, which finds what was written anywhere else. After a difference both sides are cleared.
+/// After each triangle the rows that it can touch are compared, which finds the triangle that differs. At the end of each
+/// batch everything is compared, which finds what was written anywhere else. After a difference both sides are cleared.
 fn compare(kind: Kind, seed: u64, count: u64, textures: &[Texture]) -> Seen {
     let mut sides = Sides::new();
     let mut seen = Seen::default();

@@ -5,7 +5,7 @@ use crate::floats::*;
 use crate::original::call_normalize;
 use crate::random::Random;
 
-/// The functions, and the words of a record where they are always as many.
+/// The functions, and the number of words of a record if it is always the same.
 pub const FUNCTIONS: [(&str, Option<usize>); 9] = [
     ("transform", Some(20)),
     ("multiply", Some(32)),
@@ -168,7 +168,7 @@ fn about_singular(random: &mut Random) -> Matrix {
     matrix
 }
 
-/// Rows of very different size whose determinant is about 1, so that it is finite where a cofactor is not.
+/// Rows of very different size whose determinant is about 1, so that it is finite and a cofactor may not be.
 fn balanced(random: &mut Random) -> Matrix {
     let mut matrix = rotation(random);
     let p = random.between(20, 100);
@@ -179,7 +179,7 @@ fn balanced(random: &mut Random) -> Matrix {
     matrix
 }
 
-/// Two rows that are equal, or apart in one last place.
+/// Two rows that are equal, or differ in one last place.
 fn rows_alike(random: &mut Random) -> Matrix {
     let mut matrix = filled(random, ordinary);
     matrix.copy_within(0..3, 4);
@@ -262,7 +262,7 @@ fn shade(random: &mut Random, family: u32) -> Vec<f32> {
     [&albedo[..], &position, &normal, &lights].concat()
 }
 
-/// A family of `vector` for one inside another input: large, small, or any pattern.
+/// A family of `vector` for a vector inside another input: large, small, or any pattern.
 fn extreme_family(family: u32) -> u32 {
     [5, 6, 9][family as usize % 3]
 }
@@ -361,7 +361,7 @@ fn triangle(random: &mut Random, family: u32) -> Vec<f32> {
     }
 }
 
-/// Corners about the view, each with a w of its own that its coordinates are multiples of: differences overflow.
+/// Corners about the view. Each has its own w, and its coordinates are multiples of that: differences overflow.
 fn scaled_corners(random: &mut Random, scale: Entry) -> Vec<f32> {
     let mut floats = Vec::new();
     for _ in 0..3 {

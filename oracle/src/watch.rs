@@ -6,7 +6,7 @@ use std::collections::BTreeMap;
 
 pub const DRAWS: [u8; 6] = [0x12, 0x14, 0x16, 0x18, 0x19, 0x1b];
 
-/// Feeds one word; the opcode of the command that it ends.
+/// Feeds one word; returns the opcode of the command that it ends.
 pub fn ended_by(vpu: &mut Vpu, word: u32) -> Option<u8> {
     let opcode = vpu.begun().map_or((word >> 24) as u8, |(opcode, _, _)| opcode);
     vpu.feed(&[word]);
@@ -21,7 +21,7 @@ impl Seen {
         Self(vpu.plane().to_vec())
     }
 
-    /// Whether the plane is another one than when this was last asked.
+    /// Whether the plane has changed since this was last asked.
     pub fn changed(&mut self, vpu: &Vpu) -> bool {
         let changed = vpu.plane() != &self.0[..];
         if changed {
@@ -41,7 +41,7 @@ pub struct Watch {
 }
 
 impl Watch {
-    /// A command, why it was refused, and whether it changed the plane.
+    /// Counts a command, why it was refused, and whether it changed the plane.
     pub fn add(&mut self, opcode: u8, reason: Option<Reason>, changed: bool) {
         *self.counts.entry((row(opcode, reason).0, reason)).or_default() += 1;
         self.commands += 1;

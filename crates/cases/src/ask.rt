@@ -13,8 +13,8 @@ use vpu::Answer;
 use vpu::Fed;
 use words::least;
 
-// What a call answered, whether it left the state as it was, and of the state after it what a line
-// can ask.
+// What a call answered, whether it left the state as it was, and what a line can ask about the
+// state after it.
 pub struct Seen {
     pub answer: u64,
     pub same: bool,
@@ -66,7 +66,7 @@ const ONE: u32 = 0x3f80_0000;
 
 const FAR: i32 = 2147483647;
 
-// To white, if to anything.
+// How much was cleared. What is cleared becomes white.
 fn cleared(plane: &[u8], depth: &[i32], depth_f32: &[f32]) {
     let none = mark::all(
         mark::BYTE,
@@ -178,7 +178,7 @@ fn value(op: Op, s: Seen, changed: u32, plane: &[u8], depth: &[i32], depth_f32: 
     }
 }
 
-// Of what the call was lent.
+// Only what the call was lent is looked at.
 pub fn write(
     text: &[u8],
     seen: Seen,

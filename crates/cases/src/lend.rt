@@ -1,4 +1,4 @@
-// The calls, each lent as much of the memories as it is told.
+// The calls, each lent as much of the memories as its line says.
 use crate::ask;
 use crate::ask::Seen;
 use state::State;
@@ -18,7 +18,7 @@ struct Lengths {
     models: usize,
 }
 
-// No more than there is.
+// The lengths n, but no more than there is.
 fn cut(
     n: [usize; 6],
     plane: usize,

@@ -1,6 +1,6 @@
 // The thirteen cases, malformed states clause by clause, lent lengths one off and pixel
 // reads, on the compiled calls: the table on standard input, whose head says how a line is read.
-// What is in `stdout` was written from the document.
+// What is in `stdout` was written by hand, from the rules.
 mod ask;
 mod inner;
 mod lend;
@@ -11,7 +11,8 @@ use trial::line::Line;
 use trial::line::MOST;
 use trial::mark;
 
-// Of plane and depths one element more than the calls take, so that a length can be one too great.
+// Plane and depths have one element more than the calls take, so that a length can be one too
+// great.
 const PLANE: usize = 307201;
 
 const DEPTH: usize = 76801;

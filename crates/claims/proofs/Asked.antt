@@ -1,4 +1,4 @@
--- What demand 3 says of the plain machine: a draw gets the last accepted upload under its number and is refused for want of one exactly if there is none; "no room" is the store rule's over the history. Assumes nothing.
+-- What demand 3 says of the plain machine: a draw gets the last accepted upload under its number and is refused for want of one exactly if there is none; there is no room exactly by the store rule over the history. Assumes nothing.
 use Prim.Native.Nat.{ℕ, _+_, _≤_}
 use mathlib.Core.Path.{_≡_, refl, ap}
 use mathlib.Core.Bool.{Bool, true, false, cond, not, _&&_, _||_}
@@ -36,7 +36,7 @@ use Rattle.claims.proofs.Reasons.{checked-so, told-so}
 use Rattle.claims.specs.Asked.{none-left, another, Finds, Draws, ruled, Lower}
 use Rattle.claims.specs.Plain.{Past, past, history, accepted, asPast}
 
--- ---- "the last accepted upload of its kind under that number"
+-- ---- the last accepted upload of a kind under a number
 pub finds : (n : ℕ) (h : List Whole) → Finds n h (find n h)
 finds n [] = none-left
 finds n (v ∷ h) = go (finds n h) (eqb (v .number) n) refl
@@ -49,7 +49,7 @@ finds n (v ∷ h) = go (finds n h) (eqb (v .number) n) refl
     go f true e = record { newer = []; older = h; is = refl; number = eqb-true (v .number) n e; apart = none-left }
     go f false e = later (eqb-false (v .number) n e) (find n h) f
 
--- ---- the checks after the number never say "not held"
+-- ---- the checks after the number never give the reason that it is not held
 abbrev Other : Verdict → Type 0
 Other v = (i : ℕ) → v ≡ Refused NotHeld i → ⊥
 
@@ -119,7 +119,7 @@ cleared : (h : Past) (k : Kind) → history (past (h .textures) (h .models) []) 
 cleared h Texture = refl
 cleared h Model = refl
 
--- one that passed its checks: bit 6, 64, exactly where the rule says "no room", and else it is the newest of the history
+-- one that passed its checks: bit 6, 64, exactly if by the rule there is no room, and else it is the newest of the history
 pub upload-ruled : (size : Kind → ℕ) (c : Control Past) (l : Load) → told (asPast size .look (c .box)) (c .settings) (c .opcode) (c .box .payload) .load ≡ some l
     → (execute (asPast size) c .control .notes .status ≡ cond (isFits (ruled size (c .box) l)) (bitOr (c .notes .status) 0) (bitOr (c .notes .status) 64))
     × ((k : Kind) → history (execute (asPast size) c .control .box) k ≡ cond (isFits (ruled size (c .box) l)) (history (accepted (c .box) (l .kind) (l .whole)) k) (history (c .box) k))
@@ -139,7 +139,7 @@ pub others-keep : (size : Kind → ℕ) (c : Control Past) → told (asPast size
 unfolding execute
 others-keep size c e k = rw e (cleared (c .box) k)
 
--- no other command sets bit 6: where nothing is to be kept, what a command sets is bit 3 or nothing
+-- no other command sets bit 6: if nothing is to be kept, a command sets at most a bit of value 8
 abbrev Low : Verdict → Type 0
 Low v = bitsOf v ≤ 8
 

@@ -285,7 +285,7 @@ domain-begins size a b d = (small-begins a b (d .0) .0, begins size a b plainSta
 -- ---- DEMAND 2
 -- P, D, F, C, T and M: what is lent for a reset that is answered 0
 module _ (P : List ℕ) (D : List ℤ) (F : List Float) (C T M : List ℕ) (done : reset P D F C T M .answer ≡ 0) where
-  -- "after each call": of any calls in the domain, and so of those that began them, by `domain-begins`
+  -- after each call: for any calls in the domain, and so for those that began them, by `domain-begins`
   pub demand2 : (wss : List (List ℕ)) → InDomain (sizes T M) (flatten wss)
       → (afterAll (reset P D F C T M .machine) (calls wss) .picture ≡ pushes new (flatten wss) .picture)
       × (afterAll (reset P D F C T M .machine) (calls wss) .control .notes .status ≡ pushes new (flatten wss) .status)
@@ -295,7 +295,7 @@ module _ (P : List ℕ) (D : List ℤ) (F : List Float) (C T M : List ℕ) (done
       let n = plain-calls (sizes T M) wss plainStart in
       (plain .0 ∙ ap (λ (m : Seen Past). m .picture) n ∙ o .picture, plain .1 ∙ ap (λ (m : Seen Past). m .control .notes .status) n ∙ o .status)
 
-  -- "after each call", whatever words come after it
+  -- after each call, whatever words come after it
   pub demand2-each : (wss : List (List ℕ)) (rest : List ℕ) → InDomain (sizes T M) (flatten wss ++ rest)
       → (afterAll (reset P D F C T M .machine) (calls wss) .picture ≡ pushes new (flatten wss) .picture)
       × (afterAll (reset P D F C T M .machine) (calls wss) .control .notes .status ≡ pushes new (flatten wss) .status)

@@ -96,7 +96,7 @@ module _ {size : Kind → ℕ} (z : Sizes size) {m : Machine} {n : Seen Past} (r
         formed = rw (runs-fed ws, long-textures, long-models) at back;
       }
 
--- a reset, whatever stood there
+-- a reset, whatever was there
 keeps-zero : (k : Kind) (n size : ℕ) → n ≡ size → Keeps k size (replicate 64 noSlot) (replicate n 0) []
 keeps-zero k n size h =
     let e = keeps-none k (replicate n 0) in
@@ -171,7 +171,7 @@ mixed-back o m x =
       models-is = had-back (o .models) (m .control .box .models .words) (x .control .box .models .words);
     })
 
--- "A refused call adds no history, and the run goes on from the state before it"
+-- rule 10.4: a refused call adds no history, and the run goes on from the state before it
 pub feed-goes-on : (m : Machine) (o : Own) (x : Machine) (ws : List ℕ) → Allowed m (runs.feeds (runs.other o x) ws) → after m (runs.feeds (runs.other o x) ws) ≡ m
 unfolding after
 feed-goes-on m o x ws bad = rw (ne-eqb (feedOn (mixed o m x) ws .answer) 0 bad) (ap (λ (y : Machine). mixed o y m) (feed-refused (mixed o m x) ws bad) ∙ mixed-back o m x)
@@ -218,7 +218,7 @@ module _ (P : List ℕ) (D : List ℤ) (F : List Float) (C T M : List ℕ) (done
       → Shown (asPast size) (Kept size) (run asBox (reset P D F C T M .machine) ws) (run (asPast size) plainStart ws)
   words-shown size t m ws = run-same (alike size) ws (reset P D F C T M .machine) plainStart (rw (reset-done P D F C T M right) (reset-runs size P D F C T M right t m .shown))
 
-  -- of words alone, in one call: no upload is moved, and none of the history dropped
+  -- for words alone, in one call: no upload is moved, and none of the history is dropped
   pub words-alike : (ws : List ℕ)
       → (run asBox (reset P D F C T M .machine) ws .picture ≡ run (asPast (sizes T M)) plainStart ws .picture)
       × (run asBox (reset P D F C T M .machine) ws .control .notes .status ≡ run (asPast (sizes T M)) plainStart ws .control .notes .status)
@@ -231,7 +231,7 @@ module _ (P : List ℕ) (D : List ℤ) (F : List Float) (C T M : List ℕ) (done
     runs-all : Runs (sizes T M) (afterAll (reset P D F C T M .machine) cs) (plainAll (sizes T M) plainStart cs)
     runs-all = all-run (sizes T M) fit cs (reset P D F C T M .machine) plainStart calls start-runs
 
-    -- "plane, both depth buffers and status are those of a plain machine"
+    -- plane, both depths and status are those of the plain machine
     pub demand3 : (afterAll (reset P D F C T M .machine) cs .picture ≡ plainAll (sizes T M) plainStart cs .picture)
         × (afterAll (reset P D F C T M .machine) cs .control .notes .status ≡ plainAll (sizes T M) plainStart cs .control .notes .status)
     demand3 = (runs-all .shown .picture, ap (λ (n : Notes). n .status) (runs-all .shown .control .notes))
@@ -243,7 +243,7 @@ module _ (P : List ℕ) (D : List ℤ) (F : List Float) (C T M : List ℕ) (done
     pub reset-again : resetOn (afterAll (reset P D F C T M .machine) cs) .answer ≡ 0
     reset-again = ap (λ (o : Outcome). o .answer) (runs-reset fit runs-all)
 
-    -- "calls cut anywhere": one call with all the words leaves what two calls leave, wherever they are cut
+    -- rule 2.6: one call with all the words leaves what two calls leave, wherever they are cut
     pub cut-anywhere : (a b : List ℕ) → Small a
         → feedOn (afterAll (reset P D F C T M .machine) cs) (a ++ b) ≡ feedOn (feedOn (afterAll (reset P D F C T M .machine) cs) a .machine) b
     cut-anywhere a b w =

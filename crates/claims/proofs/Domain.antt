@@ -1,4 +1,4 @@
--- The domain of demand 2 is neither empty nor everything: an upload, a clear and a flat triangle are in it exactly where the store has the upload's one word and the triangle's coordinate is from -8192 to 8192. Assumes nothing.
+-- The domain of demand 2 is neither empty nor everything: an upload, a clear and a flat triangle are in it exactly if the store has the upload's one word and the triangle's coordinate is from -8192 to 8192. Assumes nothing.
 use Prim.Native.Nat.{ℕ, _≤_, _<_}
 use mathlib.Core.Path.{_≡_, refl}
 use mathlib.Core.Bool.{Bool, true, false, cond}

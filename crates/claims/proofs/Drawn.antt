@@ -119,11 +119,11 @@ picture-alpha w m e =
 pub shows-one : (a : ℕ) → InStore (λ size. 2 ≤ size) (upload 1 a ++ draw) (λ m. getD (m .picture .plane) 3 0 ≡ alphaOf a)
 shows-one a = by-plain (λ t u r m h. picture-alpha a m (h .picture ∙ once-left t u _ r a))
 
--- and of two the last accepted one's
+-- and if there are two, that of the last accepted one
 pub shows-last : (a b : ℕ) → InStore (λ size. 2 ≤ size) (upload 1 a ++ (upload 1 b ++ draw)) (λ m. getD (m .picture .plane) 3 0 ≡ alphaOf b)
 shows-last a b = by-plain (λ t u r m h. picture-alpha b m (h .picture ∙ twice-left t u _ r a b))
 
--- of the nibbles F and 5
+-- the alphas of the nibbles F and 5
 pub alphas : (alphaOf 0x000f_0000 ≡ 255) × (alphaOf 0x0005_0000 ≡ 85)
 unfolding byteOf ofInt div ofBits lt mul add wholes
 alphas = (refl, refl)

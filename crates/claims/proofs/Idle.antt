@@ -103,19 +103,19 @@ module _ (f : Feeder) (meets : Meets f) where
         let eight : statusOf (feedOn m ws .machine) ≡ 8 = thirteen .case-3 0 0 .3 .holds m (fed []) refl .1 .0 in
         omega arith
 
-  -- ---- "Always answering 1 or 2: shut out by the table above with demand 2"
+  -- ---- always answering 1 or 2: against rule 1.5
   pub never-done : NeverDone f → ⊥
   never-done h = somewhere (λ P D F C T M right two. never P D F C T M right h)
 
-  -- ---- "One constant plane: demand 2, by case 4"
+  -- ---- one constant plane: against demand 2, by rule 9.4
   pub one-plane : (Q : List ℕ) → OnePlane Q f → ⊥
   one-plane Q h = somewhere (λ P D F C T M right two. two-planes P D F C T M right Q h)
 
-  -- ---- "Changing nothing: demand 2, by case 3"
+  -- ---- changing nothing: against demand 2, by rule 9.3
   pub nothing-changed : NothingChanged f → ⊥
   nothing-changed h = somewhere (λ P D F C T M right two. some-change P D F C T M right h)
 
-  -- ---- "Storing the first upload and pretending for later ones: demand 3, stated over demand 2's commands, since a draw must show the last accepted upload"
+  -- ---- storing the first upload and pretending for later ones: against demand 3, since a draw must show the last accepted upload
   module _ (P : List ℕ) (D : List ℤ) (F : List Float) (C T M : List ℕ) (done : reset P D F C T M .answer ≡ 0) (two : 2 ≤ length T) where
     abbrev n : Machine
     n = reset P D F C T M .machine
@@ -164,7 +164,7 @@ module _ (f : Feeder) (meets : Meets f) where
   pub first-shown : FirstShown f → ⊥
   first-shown h = somewhere (λ P D F C T M right two. last-shown P D F C T M (reset-answers P D F C T M .zero-if right) two h)
 
--- ---- of the other two calls that always answer 1
+-- ---- the other two calls, if they never answer 0
 pub never-reset : (f : List ℕ → List ℤ → List Float → List ℕ → List ℕ → List ℕ → Outcome)
     → ((P : List ℕ) (D : List ℤ) (F : List Float) (C T M : List ℕ) → f P D F C T M ≡ reset P D F C T M) → NeverReset f → ⊥
 never-reset f meets h =

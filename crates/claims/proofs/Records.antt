@@ -29,7 +29,7 @@ use Rattle.claims.proofs.Alike.{run-same}
 use Rattle.claims.proofs.Refused.{model-exact}
 use Rattle.claims.proofs.Asked.{draw-19}
 
--- ---- what a 19 of right length tells
+-- ---- what a 19 of right length says
 told-19 : (look : Look) (s : Settings) (q : List ℕ) → length q ≡ 29
     → told look s 0x19 q ≡ tells (texturedVerdict q true (hasIn (look Texture) (wordAt q 0)) (s .matrices)) s (map stroked (texturedStrokes s q true (look Texture (wordAt q 0))))
 unfolding texturedPainted

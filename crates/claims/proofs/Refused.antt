@@ -55,7 +55,7 @@ when-refused : {A : Type 0} (v : Verdict) (a b : A) → Refusal v → whenDone v
 when-refused Done a b h = absurd h
 when-refused (Refused r i) a b h = refl
 
--- what a refused command tells, and one that is to keep an upload: the settings as they were, nothing to paint but of a clear and of a model draw, and nothing to keep
+-- what a refused command says: the settings as they were, nothing to keep, and nothing to paint unless it is a clear or a model draw. One that is to keep an upload leaves the settings too, and paints nothing
 record Quiet (s : Settings) (c : Command) (t : Told) : Type 0 where
   settings : Refusal (t .verdict) → t .settings ≡ s
   nothing : Refusal (t .verdict) → t .load ≡ none
@@ -67,7 +67,7 @@ not-some : {A : Type 0} {a : A} → none ≡ some a → ⊥
 not-some e = let z : _≡_ {A = ℕ} 0 1 = cc in omega arith
 
 module _ (s : Settings) (p : List ℕ) where
-  -- ---- what sets stores nothing where it is refused
+  -- ---- what sets stores nothing if it is refused
   abbrev Changes : Changed → Type 0
   Changes c = Refusal (c .verdict) → c .settings ≡ s
 
@@ -119,7 +119,7 @@ module _ (s : Settings) (p : List ℕ) where
   told-quiet : (look : Look) (op : ℕ) → Quiet s (commandOf op) (told look s op p)
   told-quiet look op = rw (told-as look s op p refl) (as-quiet look (commandOf op))
 
--- ---- every refused command, "no room" too
+-- ---- every refused command, those without room too
 module _ {X : Type 0} (K : Keep X) (c : Control X) (r : Reason) (i : ℕ) (e : verdictIn K c ≡ Refused r i) where
   record Parts (o : Option Load) : Type 0 where
     same : toldIn K c .settings ≡ c .settings
@@ -147,7 +147,7 @@ module _ {X : Type 0} (K : Keep X) (c : Control X) (r : Reason) (i : ℕ) (e : v
       let q = parts (toldIn K c .load) refl e in
       record { settings = q .same; uploads = ap (λ (x : X). K .clear x) (q .held); status = rw e; opcode = refl; wanted = refl }
 
-  -- and every other one paints nothing: "changes status only"
+  -- and every other one paints nothing (rule 3.3)
   module _ (not-clear : c .opcode ≡ 0x04 → ⊥) (not-model : c .opcode ≡ 0x1b → ⊥) where
     pub refused-paints : execute K c .paints ≡ []
     unfolding execute
@@ -157,13 +157,13 @@ module _ {X : Type 0} (K : Keep X) (c : Control X) (r : Reason) (i : ℕ) (e : v
     unfolding paintsOn
     refused-picture m f = rw (f, refused-paints)
 
--- of the machine: both stores, slots and words, and the command area are as they were
+-- on the machine both stores, slots and words, and the command area are as they were
 pub refused-stores : (c : Control Box) (r : Reason) (i : ℕ) → verdictIn asBox c ≡ Refused r i
     → execute asBox c .control .box ≡ box (c .box .textures) (c .box .models) (c .box .area) 0
 refused-stores c r i e = refused-leaves asBox c r i e .uploads
 
 -- ---- the two that paint though refused, exactly
--- 04: "flags beyond 3 still do so, then set bit 3"; of a wrong length nothing is cleared
+-- 04 (rule 3.6): flags above 3 are refused and still clear; with a wrong length nothing is cleared
 pub clear-exact : (look : Look) (s : Settings) (p : List ℕ) → length p ≡ 3 → told look s 0x04 p ≡ tells (cond (leb (wordAt p 0) 3) Done (Refused OutOfRange 0)) s (clearPaints p)
 unfolding clearPainted
 clear-exact look s p n = told-as look s 0x04 p command-of-04 ∙ ap (toldBy s) (painted-whole look s draw.Clear p n)
@@ -171,12 +171,12 @@ clear-exact look s p n = told-as look s 0x04 p command-of-04 ∙ ap (toldBy s) (
 pub clear-short : (look : Look) (s : Settings) (p : List ℕ) → (length p ≡ 3 → ⊥) → told look s 0x04 p ≡ tells wrongLength s []
 clear-short look s p n = told-as look s 0x04 p command-of-04 ∙ ap (toldBy s) (painted-short look s draw.Clear p n)
 
--- 1B: of a wrong length, with a mode above 2 or without its model nothing is drawn; else its triangles that are not refused are
+-- 1B: with a wrong length, with a mode above 2 or without its model nothing is drawn; else its triangles that are not refused are
 module _ (look : Look) (s : Settings) (p : List ℕ) where
   pub model-short : (length p ≡ 2 → ⊥) → told look s 0x1b p ≡ tells wrongLength s []
   model-short n = told-as look s 0x1b p command-of-1b ∙ ap (toldBy s) (painted-short look s draw.Model p n)
 
-  -- what it tells, by the model that is held under its number
+  -- what it says, by the model that is held under its number
   abbrev by-model : Option Whole → Told
   by-model o = tells (modelVerdict p (hasIn (look Texture)) (s .matrices) o) s (map paints.stroked (modelStrokes s p (look Texture) o))
 

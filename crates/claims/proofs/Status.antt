@@ -108,7 +108,7 @@ all-stay s = record { kept = λ k h. h; others = λ k a b c. refl }
 then-stay : {r s t : ℕ} → Stays r s → Stays s t → Stays r t
 then-stay x y = record { kept = λ k h. y .kept k (x .kept k h); others = λ k a b c. y .others k a b c ∙ x .others k a b c }
 
--- ---- of a command, of a word, and of a run of words
+-- ---- for a command, for a word, and for a run of words
 module _ {X : Type 0} (K : Keep X) where
   pub execute-stays : (c : Control X) → Stays (c .notes .status) (execute K c .control .notes .status)
   execute-stays c = sets-stays (execute-sets K c)

@@ -152,7 +152,7 @@ three-six : (u : ℕ) (p : Picture) → (run (asPast (given 6 u)) (from p) three
 unfolding run word header gather execute told commandOf textureVerdict
 three-six u p = (refl, refl)
 
--- what a store of t words shows, where t is n
+-- what a store of t words shows, if t is n
 stored : (u : ℕ) {t n status : ℕ} {us : List Whole} {m : Machine} → As t m (run (asPast (given t u)) plainStart three) → t ≡ n
     → (run (asPast (given n u)) plainStart three .control .notes .status ≡ status) × (live (run (asPast (given n u)) plainStart three .control .box .textures) ≡ us)
     → (statusOf m ≡ status) × (view Texture (m .control .box .textures .slots) (m .control .box .textures .words) ≡ us)

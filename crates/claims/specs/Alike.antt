@@ -1,4 +1,4 @@
--- When two ways of keeping uploads answer alike: what demand 3 asks of the machine's slots beside the whole history, and of any other way. Definitions only.
+-- When two ways of keeping uploads answer alike: for demand 3 the machine's slots and the whole history, but also any other two. Definitions only.
 use Prim.Native.Nat.{ℕ, suc, _<_}
 use mathlib.Core.Path.{_≡_}
 use mathlib.Core.Bool.{true}

@@ -1,4 +1,4 @@
--- Demand 3, a draw gets the last accepted upload of its kind under that number, and is refused for want of one exactly if there is none, and there is no room by the store rule: what these say of a history. Definitions only.
+-- What demand 3 says about a history: a draw gets the last accepted upload of its kind under its number, it is refused for want of one exactly if there is none, and the store rule decides whether there is room. Definitions only.
 use Prim.Native.Nat.{ℕ, zero, suc, _*_, _≤_, _<_}
 use mathlib.Core.Path.{_≡_}
 use mathlib.Core.Bool.{Bool}
@@ -40,7 +40,7 @@ abbrev pub Finds : ℕ → List Whole → Option Whole → Type 0
 Finds n h none = Apart n h
 Finds n h (some u) = Last n h u
 
--- ---- what a textured triangle tells: 18, or 19 if it has normals, with the words p. `found`: what the history has under its number
+-- ---- what a textured triangle says: 18, or 19 if it has normals, with the words p. `found`: what the history has under its number
 pub record Draws (found : Option Whole) (s : Settings) (p : List ℕ) (normal : Bool) (t : Told) : Type 0 where
   -- refused for want of one exactly if there is none
   pub wanting : found ≡ none → t .verdict ≡ Refused NotHeld 0
@@ -53,7 +53,7 @@ pub record Draws (found : Option Whole) (s : Settings) (p : List ℕ) (normal : 
 abbrev pub recordAt : ℕ → List ℕ → ℕ → List ℕ
 recordAt mode words i = triangleOf mode (drop (28 * i) words)
 
--- what n of them tell, from the one under i on: the first refusal, and all that they paint
+-- what n of them say, from number i on: the first refusal, and all that they paint
 abbrev pub firstRefused : (ℕ → Told) → ℕ → ℕ → Verdict
 firstRefused tell i zero = Done
 firstRefused tell i (suc n) = andThen (tell i .verdict) (firstRefused tell (suc i) n)
@@ -62,21 +62,21 @@ abbrev pub allPainted : (ℕ → Told) → ℕ → ℕ → List Paint
 allPainted tell i zero = []
 allPainted tell i (suc n) = tell i .paints ++ allPainted tell (suc i) n
 
--- what record i of the model u tells, as the 19 that it is, if 1B has the words p
+-- what record i of the model u says as a 19, if 1B has the words p
 abbrev pub recordTold : Look → Settings → List ℕ → Whole → ℕ → Told
 recordTold look s p u i = told look s 0x19 (recordAt (wordAt p 1) (u .words) i)
 
--- rule 3.15: what 1B with the words p says, where the model u is held under its number
+-- rule 3.15: what 1B with the words p says if the model u is held under its number
 pub record Records (look : Look) (s : Settings) (p : List ℕ) (u : Whole) (t : Told) : Type 0 where
   pub whole : (i : ℕ) → i < u .wide → length (recordAt (wordAt p 1) (u .words) i) ≡ 29
   pub is : t ≡ tells (firstRefused (recordTold look s p u) 0 (u .wide)) s (allPainted (recordTold look s p u) 0 (u .wide))
 
 -- ---- no room
--- rule 8.5 over the history, of an upload
+-- rule 8.5 over the history, for an upload
 abbrev pub ruled : (Kind → ℕ) → Past → Load → Room
 ruled size h l = room (size (l .kind)) (cards (live (history h (l .kind)))) (l .whole .number) (length (l .whole .words))
 
--- the status after a verdict that is not of a full store: bit 3, or nothing
+-- the status after a verdict that is not of a full store: it sets at most a bit of value 8, so not bit 6
 pub record Lower (before after : ℕ) : Type 0 where
   pub verdict : Verdict
   pub low : bitsOf verdict ≤ 8

@@ -19,15 +19,15 @@ module _ (P : List ℕ) (D : List ℤ) (F : List Float) (C T M : List ℕ) where
   abbrev pub Right : Type 0
   Right = Lengths (length P) (length D) (length F) (length C) (length T) (length M)
 
-  -- o is what a feed comes to, of the state s and the words ws
+  -- o is what a feed comes to, with the state s and the words ws
   pub record Fed (s : State) (ws : List ℕ) (o : Outcome) : Type 0 where
-    -- 1: a lent length is wrong, exactly
+    -- 1: exactly if a lent length is wrong
     pub one : o .answer ≡ 1 → Right → ⊥
     pub one-if : (Right → ⊥) → o .answer ≡ 1
-    -- 2: malformed state, exactly, if no length is wrong
+    -- 2: exactly if no length is wrong and the state is malformed
     pub two : o .answer ≡ 2 → Right × (wellFormed s (length T) (length M) ≡ false)
     pub two-if : Right → wellFormed s (length T) (length M) ≡ false → o .answer ≡ 2
-    -- 0: done, exactly
+    -- 0: exactly if no length is wrong and the state is well formed
     pub zero : o .answer ≡ 0 → Right × (wellFormed s (length T) (length M) ≡ true)
     pub zero-if : Right → wellFormed s (length T) (length M) ≡ true → o .answer ≡ 0
     -- what the words leave
@@ -47,9 +47,9 @@ module _ (P : List ℕ) (D : List ℤ) (F : List Float) (C T M : List ℕ) where
     pub refused : (o .answer ≡ 0 → ⊥) → o .machine ≡ machine fresh P D F C T M
     pub known : o .answer ≤ 1
 
--- a is what a pixel is read as
+-- a is the answer to reading a pixel
 pub record Pixel (P : List ℕ) (x y : ℕ) (a : Answered) : Type 0 where
-  -- 1: the length is wrong, exactly, and then four zeros
+  -- 1: exactly if the length is wrong, and then four zeros
   pub one : a .number ≡ 1 → length P ≡ planeBytes → ⊥
   pub one-if : (length P ≡ planeBytes → ⊥) → a ≡ record { number = 1; bytes = nothing }
   pub zero : a .number ≡ 0 → length P ≡ planeBytes

@@ -15,19 +15,19 @@ use Rattle.vpu.specs.Calls.{Small}
 use Rattle.claims.specs.Plain.{Past, asPast, plainStart}
 use Rattle.claims.specs.Runs.{Call, feeds, own}
 
--- from -8192 to 8192, of these words of a payload
+-- these words of a payload, read with a sign, are from -8192 to 8192
 abbrev pub Near : List ℕ → List ℕ → Type 0
 Near p [] = Unit {0}
 Near p (k ∷ ks) = (natAbs (signedAt p k) ≤ 8192) × Near p ks
 
--- a command whose payload is complete, with what was kept before it
+-- a command whose payload is complete is in the domain, with what was kept before it
 pub record Within (size : Kind → ℕ) (c : Control Past) : Type 0 where
-  -- flat coordinates: of command 12 with its eleven words, x and y of each corner
+  -- flat coordinates: x and y of each corner, in command 12 with its eleven words
   pub near : c .opcode ≡ 0x12 → length (c .box .payload) ≡ 11 → Near (c .box .payload) (0 ∷ 1 ∷ 3 ∷ 4 ∷ 6 ∷ 7 ∷ [])
   -- an upload that passes its checks has room, by rule 8.5 over the history
   pub fits : (l : Load) → told (asPast size .look (c .box)) (c .settings) (c .opcode) (c .box .payload) .load ≡ some l → asPast size .room (c .box) l ≡ Fits
 
--- a word that completes a command completes one of these. (A header with count 0 has a command run without words: always refused.)
+-- if a word completes a command, that command is in the domain. (A header with count 0 runs a command without words, which is always refused.)
 abbrev pub Fine : (Kind → ℕ) → Seen Past → ℕ → Type 0
 Fine size m w = m .control .wanted ≡ 1 → Within size (taken (asPast size) (m .control) w)
 
@@ -48,7 +48,7 @@ abbrev pub singles : List ℕ → List (List ℕ)
 singles [] = []
 singles (w ∷ ws) = (w ∷ []) ∷ singles ws
 
--- ---- a stream that is in it for some x, and for some stores: `proofs/Domain.antt`
+-- ---- a stream that is in the domain for some x and some stores: `proofs/Domain.antt`
 -- texture 7, of one texel
 abbrev pub upload : List ℕ
 upload = 0x1700_0004 ∷ 7 ∷ 1 ∷ 1 ∷ 0xf0a5_1234 ∷ []

@@ -36,30 +36,30 @@ Meets f = (s : State) (ws : List ℕ) (P : List ℕ) (D : List ℤ) (F : List Fl
 abbrev pub NeverDone : Feeder → Type 0
 NeverDone f = (s : State) (ws : List ℕ) (P : List ℕ) (D : List ℤ) (F : List Float) (C T M : List ℕ) → f s ws P D F C T M .answer ≡ 0 → ⊥
 
--- and of the other two calls
+-- the same for the other two calls
 abbrev pub NeverReset : (List ℕ → List ℤ → List Float → List ℕ → List ℕ → List ℕ → Outcome) → Type 0
 NeverReset f = (P : List ℕ) (D : List ℤ) (F : List Float) (C T M : List ℕ) → f P D F C T M .answer ≡ 0 → ⊥
 
 abbrev pub NeverRead : (List ℕ → ℕ → ℕ → Answered) → Type 0
 NeverRead f = (P : List ℕ) (x y : ℕ) → f P x y .number ≡ 0 → ⊥
 
--- one constant plane, after whatever is answered 0
+-- one constant plane: it is there after every call that is answered 0
 abbrev pub OnePlane : List ℕ → Feeder → Type 0
 OnePlane Q f =
     (s : State) (ws : List ℕ) (P : List ℕ) (D : List ℤ) (F : List Float) (C T M : List ℕ) → f s ws P D F C T M .answer ≡ 0 → f s ws P D F C T M .machine .picture .plane ≡ Q
 
--- changing nothing, whatever is answered 0
+-- changing nothing, in every call that is answered 0
 abbrev pub NothingChanged : Feeder → Type 0
 NothingChanged f =
     (s : State) (ws : List ℕ) (P : List ℕ) (D : List ℤ) (F : List Float) (C T M : List ℕ) → f s ws P D F C T M .answer ≡ 0 → f s ws P D F C T M .machine ≡ machine s P D F C T M
 
--- ---- storing the first upload and pretending for later ones: after a reset answered 0 and words then fed, the first two uploads, of one kind and number
+-- ---- storing the first upload and pretending for later ones. A reset is answered 0, some words are fed, and then come the first two uploads, of one kind and number
 -- no command is begun, and nothing is held yet
 pub record Blank {X : Type 0} (K : Keep X) (c : Control X) : Type 0 where
   pub header-next : c .wanted ≡ 0
   pub none-held : (k : Kind) (n : ℕ) → K .look (c .box) k n ≡ none
 
--- they passed their checks, and there is room for each as it comes
+-- the two uploads passed their checks, and there is room for each as it comes
 pub record Twice {X : Type 0} (K : Keep X) (x : X) (a b : Load) : Type 0 where
   pub kind : a .kind ≡ b .kind
   pub number : a .whole .number ≡ b .whole .number
@@ -68,11 +68,11 @@ pub record Twice {X : Type 0} (K : Keep X) (x : X) (a b : Load) : Type 0 where
   pub room-first : K .room x a ≡ Fits
   pub room-second : K .room (K .put x a) b ≡ Fits
 
--- what a reset leaves, and words then, with uploads kept from x on
+-- the control after a reset and these words, with uploads kept from x on
 abbrev pub wordsOn : {X : Type 0} → Keep X → X → List ℕ → Control X
 wordsOn K x ws = run K (record { control = record { settings = settings.fresh; notes = noNotes; opcode = 0; wanted = 0; box = x }; picture = plainStart .picture }) ws .control
 
--- a way of keeping that does so: the first is found
+-- a way of keeping that does so: the first of the two is found
 abbrev pub FirstKept : {X : Type 0} → Keep X → X → Type 0
 FirstKept K x =
     (ws : List ℕ) → Small ws → Blank K (wordsOn K x ws) → (a b : Load) → Twice K (wordsOn K x ws .box) a b
@@ -104,8 +104,8 @@ FirstShown f =
     → TwiceFed f (reset P D F C T M .machine) ws n a b → Small ds
     → fedBy f (reset P D F C T M .machine) (ws ++ (upload n a ++ (upload n b ++ ds))) .picture .plane ≡ fedBy f (reset P D F C T M .machine) (ws ++ (upload n a ++ ds)) .picture .plane
 
--- ---- one of each that does so, for those who ask whether any does: `proofs/Pretended.antt`
--- K, but an upload under a number that is held is pretended
+-- ---- a way of keeping and a feeder that do so, to show that there are any: `proofs/Pretended.antt`
+-- K, but an upload under a number that is held is not stored
 abbrev pub pretends : {X : Type 0} → Keep X → Keep X
 pretends K = record {
   look = K .look;
@@ -139,6 +139,6 @@ triangle = 1 ∷ 0 ∷ less ∷ less ∷ 0 ∷ 0 ∷ 0 ∷ 0 ∷ more ∷ less �
 abbrev pub draw : List ℕ
 draw = 0x1800_0014 ∷ triangle
 
--- the alpha byte at (0, 0) after it, of a 1 × 1 texture of the word w: the texel's, through a float
+-- the alpha byte at (0, 0) after that draw, with a 1 × 1 texture of the word w: the texel's alpha, by way of a float
 abbrev pub alphaOf : ℕ → ℕ
 alphaOf w = byteOf (unitOf (w / 65536 % 16 * 17))

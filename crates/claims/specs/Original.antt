@@ -1,5 +1,5 @@
 -- The original as it reads (rule 10.1): a `Vpu` with its maps of uploads, from `new` and `push` on. No slot, no store, no history, no room, no bound on coordinates.
--- What its arms do is shared with the port: `told`, and paints. That these are the Rust's is shown by runs and not by proof. Definitions only.
+-- What its arms do is shared with the port: `told`, and paints. That these are what the Rust does is shown by runs and not by proof. Definitions only.
 use Prim.Native.Nat.{ℕ, _+_, _-_, _*_, _/_, _%_}
 use mathlib.Core.Bool.{cond, _&&_}
 use mathlib.Core.Option.{Option, none, some}
@@ -41,7 +41,7 @@ new = record {
   status = 0;
 }
 
--- `insert` of a `HashMap`: what stood under the number goes
+-- `insert` of a `HashMap`: what was under the number goes
 abbrev pub insert : (ℕ → Option Whole) → Whole → ℕ → Option Whole
 insert held u n = cond (eqb (u .number) n) (some u) (held n)
 
@@ -60,7 +60,7 @@ kept held (some l) = inserted held (l .kind) (l .whole)
 unfoldable pub arm : Look → Settings → ℕ → List ℕ → Told
 arm held s opcode p = cond (eqb opcode 0x12 && eqb (length p) 11) (tells Done s (flat (triOf p) ∷ [])) (told held s opcode p)
 
--- what an arm does, `self.status |= 1 << 3` where it refuses; then lines 225 and 226
+-- what an arm does, `self.status |= 1 << 3` if it refuses; then lines 225 and 226
 abbrev pub ended : Vpu → Told → Vpu
 ended v t = record {
   picture = paintsOn (t .paints) (v .picture);
@@ -83,7 +83,7 @@ marked v bit = record { picture = v .picture; settings = v .settings; uploads = 
 abbrev pub waiting : Vpu → List ℕ → ℕ → Vpu
 waiting v command left = record { picture = v .picture; settings = v .settings; uploads = v .uploads; command = command; expected = some left; status = v .status }
 
--- lines 130 to 135 and 137 to 142: it runs where none is left
+-- lines 130 to 135 and 137 to 142: it runs if none is left
 unfoldable pub await : Vpu → List ℕ → ℕ → Vpu
 await v command left = cond (eqb left 0) (execute (waiting v command left)) (waiting v command left)
 
@@ -91,7 +91,7 @@ await v command left = cond (eqb left 0) (execute (waiting v command left)) (wai
 abbrev pub maxCommandWords : ℕ
 maxCommandWords = 3 + 1024 * 1024 / 2
 
--- lines 119 to 143, `pump` on one word: a header where nothing is expected, and else a payload word
+-- lines 119 to 143, `pump` on one word: a header if nothing is expected, else a payload word
 abbrev pub pump : Vpu → ℕ → Option ℕ → Vpu
 pump v word none =
     let opcode = word / 16777216 in

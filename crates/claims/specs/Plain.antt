@@ -37,7 +37,7 @@ abbrev pub asPast : (Kind → ℕ) → Keep Past
 asPast size = record {
   -- the last accepted upload of the kind under the number, or none
   look = λ h k n. find n (history h k);
-  -- rule 8.5 over that history: of each number its last upload counts
+  -- rule 8.5 over that history: the last upload of each number counts
   room = λ h l. room (size (l .kind)) (cards (live (history h (l .kind)))) (l .whole .number) (length (l .whole .words));
   put = λ h l. accepted h (l .kind) (l .whole);
   payload = λ h. h .payload;

@@ -73,7 +73,7 @@ unfoldable pub afterAll : Machine → List Call → Machine
 afterAll m [] = m
 afterAll m (c ∷ cs) = afterAll (after m c) cs
 
--- a call of the run: its state and its buffers, and words; or whatever is refused
+-- a call that a run may have: with its own state and buffers, and words of 32 bits; or any other call that is refused
 abbrev pub Allowed : Machine → Call → Type 0
 Allowed m (feeds own ws) = Small ws
 Allowed m (resets own) = Unit {0}

@@ -14,11 +14,11 @@ pub record Stays (before after : ℕ) : Type 0 where
   pub others : (k : ℕ) → (k ≡ 2 → ⊥) → (k ≡ 3 → ⊥) → (k ≡ 6 → ⊥) → after / 2 ^ k % 2 ≡ before / 2 ^ k % 2
 
 module _ {X : Type 0} (K : Keep X) where
-  -- what the command whose payload is complete tells
+  -- what the command whose payload is complete says
   abbrev pub toldIn : Control X → Told
   toldIn c = told (K .look (c .box)) (c .settings) (c .opcode) (K .payload (c .box))
 
-  -- its verdict, room asked
+  -- its verdict, with the test for room
   abbrev pub verdictIn : Control X → Verdict
   verdictIn c = verdictOf K (c .box) (toldIn c) (toldIn c .load)
 

@@ -51,7 +51,7 @@ pub record HeaderNext (m : Machine) : Type 0 where
   pub gathered : m .control .box .gathered ≡ 0
   pub wanted : m .control .wanted ≡ 0
 
--- `pixel`, and its answer where it has a colour
+-- `pixel`, and its answer if that is a colour
 abbrev pub pixelIn : Machine → ℕ → ℕ → Answered
 pixelIn m x y = pixelOf (m .picture .plane) x y
 

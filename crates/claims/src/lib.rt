@@ -1,1 +1,1 @@
-// What was promised, as theorems: it has no code.
+// What was promised, as theorems. This crate has no code.

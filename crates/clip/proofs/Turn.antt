@@ -1,4 +1,4 @@
--- The loop of `clip_polygon`. At each turn what stands in `out`, followed by what the sides that are left add, is the whole answer; so its length bounds n.
+-- The loop of `clip_polygon`. At each turn what is in `out`, followed by what the sides that are left add, is the whole answer; so its length bounds n.
 -- Assumes nothing.
 use Prim.Native.Nat.{ℕ, _+_, _-_, _≤_, _<_}
 use mathlib.Core.Path.{_≡_, refl, sym, ap, _∙_}
@@ -122,7 +122,7 @@ module _ (plane : ℕ) (all : List ClipVertex) (count : ℕ) (long : length all 
       let are : take n out ≡ clip full plane (take count all) = sym (append-nil (take n out)) ∙ (rw none at (w .rest)) in
       record { few = w .few; long = sym (length-take-le n out (omega (arith, w .long, w .few))) ∙ ap length are; are = are }
 
--- of no vertices none are left
+-- if there are no vertices, none are left
 pub empty : (plane : ℕ) (p : Polygon) → p .count ≡ 0 → Holds p (clip full plane (of p))
 unfolding clip
 empty plane p h = record { few = omega arith; long = rw h; are = rw h }

@@ -88,7 +88,7 @@ module _ {X : Type 0} (k : Kind X) where
         let e : insideOf d ≡ true = not-false (insideOf d) h in
         rw (n, ← far, e)
 
-  -- of no vertices nothing is cut off
+  -- if there are no vertices, nothing is cut off
   pub next-none : (n plane : ℕ) → nextCut k n plane [] ≡ plane + n
   unfolding nextCut whole
   next-none zero plane = omega arith

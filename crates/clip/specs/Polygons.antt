@@ -22,7 +22,7 @@ insideOf d = le zero32 d
 abbrev pub crossingOf : {X : Type 0} → Kind X → Float → Float → X → X → X
 crossingOf k d e p c = k .between (d ⊘ (d ⊖ e)) p c
 
--- a turn of `clip_polygon`'s loop, from the previous vertex p to the current c: the crossing where just one of the two is inside, then c where it is inside
+-- a turn of `clip_polygon`'s loop, from the previous vertex p to the current c: the crossing if just one of the two is inside, then c if it is inside
 unfoldable pub sideOf : {X : Type 0} → Kind X → ℕ → X → X → List X
 sideOf k plane p c =
     let d = k .distance plane p in
@@ -39,12 +39,12 @@ unfoldable pub lastOf : {X : Type 0} → X → List X → X
 lastOf p [] = p
 lastOf p (c ∷ cs) = lastOf c cs
 
--- rule 5.6, `clip_polygon`: the sides in order, the first from the last vertex; of no vertices none
+-- rule 5.6, `clip_polygon`: the sides in order, the first from the last vertex. No vertices give none
 unfoldable pub clip : {X : Type 0} → Kind X → ℕ → List X → List X
 clip k plane [] = []
 clip k plane (v ∷ vs) = sidesFrom k plane (lastOf v vs) (v ∷ vs)
 
--- `for plane in 0..6`, with n planes left; none are left as soon as there are fewer than three (`polygon.len() < 3`)
+-- `for plane in 0..6`, with n planes left. As soon as there are fewer than three vertices (`polygon.len() < 3`), the result has none
 unfoldable pub clipFrom : {X : Type 0} → Kind X → ℕ → ℕ → List X → List X
 clipFrom k zero plane vs = vs
 clipFrom k (suc n) plane vs = cond (ltb (length (clip k plane vs)) 3) [] (clipFrom k n (plane + 1) (clip k plane vs))
@@ -58,7 +58,7 @@ fanFrom a [] = []
 fanFrom a (b ∷ []) = []
 fanFrom a (b ∷ (c ∷ cs)) = (a ∷ b ∷ c ∷ []) ∷ fanFrom a (c ∷ cs)
 
--- rule 5.7: the triangles that are drawn of a polygon
+-- rule 5.7: a polygon is drawn as these triangles
 unfoldable pub fan : {X : Type 0} → List X → List (List X)
 fan [] = []
 fan (a ∷ vs) = fanFrom a vs
@@ -73,6 +73,6 @@ unfoldable pub nextCut : {X : Type 0} → Kind X → ℕ → ℕ → List X → 
 nextCut k zero plane vs = plane
 nextCut k (suc n) plane vs = cond (whole k plane vs) (nextCut k n (plane + 1) vs) plane
 
--- added: none of the six does; then the triangle is drawn as it is (`inside-drawn`, proofs/Whole.antt)
+-- added: none of the six cuts anything off. Then the triangle is drawn as it is (`inside-drawn`, proofs/Whole.antt)
 unfoldable pub allInside : {X : Type 0} → Kind X → List X → Bool
 allInside k vs = eqb (nextCut k 6 0 vs) 6

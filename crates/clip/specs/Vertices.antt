@@ -53,15 +53,15 @@ mixVertex t p c = record {
 abbrev pub full : Kind ClipVertex
 full = record { distance = λ plane v. distanceOf plane (v .position); between = mixVertex }
 
--- no vertex: what stands past the end of an array
+-- no vertex: what is past the end of an array
 abbrev pub noVertex : ClipVertex
 noVertex = record { position = []; «view_position» = []; normal = []; color = []; uv = [] }
 
--- rule 5.6: the most vertices. A plane makes at most 3 n / 2 of n vertices, since rounding can let a polygon cross it more than twice: six planes make 28 of three
+-- rule 5.6: the most vertices. A plane makes at most 3 n / 2 vertices of n, since rounding can let a polygon cross it more than twice. So six planes make at most 28 of three
 abbrev pub room : ℕ
 room = 28
 
--- a polygon that a plane may be asked to cut: five planes leave no more vertices, and of so many one plane leaves no more than there is room for
+-- the most vertices of a polygon that a plane may be asked to cut. Five planes leave no more, and one plane makes no more of them than there is room for
 abbrev pub cuttable : ℕ
 cuttable = 19
 
@@ -69,7 +69,7 @@ cuttable = 19
 abbrev pub of : Polygon → List ClipVertex
 of p = take (p .count) (p .vertices)
 
--- a polygon by value is these vertices; past its count anything may stand
+-- a polygon by value is these vertices; past its count there may be anything
 pub record Holds (p : Polygon) (vs : List ClipVertex) : Type 0 where
   pub few : p .count ≤ room
   pub long : p .count ≡ length vs

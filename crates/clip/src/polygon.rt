@@ -16,7 +16,7 @@ pub struct Polygon {
     pub count: usize,
 }
 
-// The first plane, from one on and before another, that the vertex is outside of.
+// The first plane from `plane` on, before `stop`, that the vertex is outside of, or `stop`.
 fn first_out(vertex: ClipVertex, plane: usize, stop: usize) -> usize
     requires { ⌜ plane ≤ stop ⌝ }
     ensures { λ r. ⌜ r ≡ nextCut full (stop - plane) plane (vertex ∷ []) ⌝ }
@@ -40,14 +40,14 @@ fn first_cut(triangle: [ClipVertex; 3]) -> usize
     first_out(c, 0, first_out(b, 0, first_out(a, 0, 6)))
 }
 
-// Whether none does: then the triangle is drawn as it is, and its caller needs no polygon.
+// Is the whole triangle inside? Then it is drawn as it is, and its caller needs no polygon.
 pub fn all_inside(triangle: [ClipVertex; 3]) -> bool
     ensures { λ r. ⌜ r ≡ allInside full triangle ⌝ }
 {
     first_cut(triangle) == 6
 }
 
-// The first plane, from one on, that cuts something off the polygon, or 6.
+// The first plane from `plane` on that cuts something off the polygon, or 6.
 fn next_cut(polygon: Polygon, plane: usize) -> usize
     requires { ⌜ polygon .count ≤ room ⌝ }
     requires { ⌜ plane ≤ 6 ⌝ }

@@ -27,7 +27,7 @@ pub fn clip_distance(vertex: ClipVertex, plane: usize) -> f32
     }
 }
 
-// The way from p to c, t of it, for two, three and four numbers.
+// What is t of the way from p to c, for two, three and four numbers.
 fn mix2(t: f32, p: [f32; 2], c: [f32; 2]) -> [f32; 2]
     ensures { λ r. ⌜ r ≡ mix2Of t p c ⌝ }
 {

@@ -1,4 +1,4 @@
--- The verdicts where the matrix for normals is in hand, for the functions that stop at the first check that fails. Assumes nothing.
+-- The verdicts if the matrix for normals is in hand, for the functions that stop at the first check that fails. Assumes nothing.
 use Prim.Native.Nat.{ℕ}
 use mathlib.Core.Path.{_≡_}
 use mathlib.Core.Bool.{Bool, true, false}
@@ -12,7 +12,7 @@ use Rattle.decide.specs.Corners.{corner, firstOf, normalMatrixOf, corner
 use Rattle.decide.specs.Verdicts.{reachedOf, eachOf, inputsOf, transformedBy, transformedVerdict, texturedBy, checkedVerdict}
 
 module _ (p : List ℕ) (m : List Float) where
-  -- 14 and 16, where the model-view can be inverted
+  -- 14 and 16, if the model-view can be inverted
   module _ (normal : Bool) {matrix : Matrix3} (e : normalMatrixOf m normal ≡ Of matrix) where
     pub corners-are : (textured : Bool) → cornersBy p normal textured m matrix ≡ cornersOf p normal textured m
     unfolding cornersOf

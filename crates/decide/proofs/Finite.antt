@@ -1,4 +1,4 @@
--- Of a finite result the parts are finite: a product's factor, a sum's terms, and so each coordinate that a row of a matrix is applied to. Assumes nothing.
+-- The parts of a finite result are finite: a product's factor, a sum's terms, and so each coordinate that a row of a matrix is applied to. Assumes nothing.
 use Prim.Native.Nat.{ℕ}
 use mathlib.Core.Path.{_≡_, refl}
 use mathlib.Core.Bool.{Bool, true, false, cond, Bool·beq}

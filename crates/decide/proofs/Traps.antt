@@ -1,4 +1,4 @@
--- What the float draws' checks do where a reader may expect otherwise, each by its number in the list of traps. The commands are
+-- What the float draws' checks do that a reader may not expect, as docs/DIFFERENCES.md lists it. The commands are
 --     14  transformedVerdict p false        18  texturedVerdict p false
 --     16  transformedVerdict p true         19  texturedVerdict p true
 -- Assumes nothing.
@@ -47,17 +47,17 @@ module _ (m m′ : List Float) (same : (i : ℕ) → i < 32 → at m i ≡ at m�
   inverse-same = ap inverseTransposeOf product-same
 
 module _ (p : List ℕ) (m : List Float) where
-  -- 1: 19 is done where the words are finite and the model-view can be inverted, and nothing is asked of the transformed positions
+  -- 19 is done if the words are finite and the model-view can be inverted, and nothing is asked of the transformed positions
   pub overflow-passes : {matrix : Matrix3} → atMost p 1 2 ≡ Done → inputsOf p true true ≡ Done → normalMatrixOf m true ≡ Of matrix → texturedVerdict p true true m ≡ Done
   unfolding texturedVerdict checkedVerdict texturedBy
   overflow-passes range finite inverse = rw (range, inverse, finite)
 
-  -- 1: so the projection, which stands behind the first 32 cells, does not bear on it
+  -- so the projection, which comes after the first 32 cells, does not bear on it
   pub projection-unseen : (held : Bool) (m′ : List Float) → ((i : ℕ) → i < 32 → at m i ≡ at m′ i) → texturedVerdict p true held m ≡ texturedVerdict p true held m′
   unfolding texturedVerdict checkedVerdict texturedBy
   projection-unseen held m′ same = rw (inverse-same m m′ same)
 
-  -- 2: 16 and 19 refuse a model-view that cannot be inverted; whether lighting is on, and 19's mode, are no part of it
+  -- 16 and 19 refuse a model-view that cannot be inverted; whether lighting is on, and 19's mode, are no part of it
   pub singular-transformed : normalMatrixOf m true ≡ Singular → transformedVerdict p true m ≡ Refused NotInvertible 0
   unfolding transformedVerdict transformedBy
   singular-transformed h = rw h
@@ -66,29 +66,29 @@ module _ (p : List ℕ) (m : List Float) where
   unfolding texturedVerdict checkedVerdict texturedBy
   singular-textured range h = rw (range, h)
 
-  -- 2: 14 and 18 never look
+  -- 14 and 18 never look
   pub never-looked : invertibleOf (normalMatrixOf m false) ≡ Done
   unfolding normalMatrixOf
   never-looked = refl
 
-  -- 14: 14 and 16 test every input word before any transformed position
+  -- 14 and 16 test every input word before any transformed position
   pub words-first : (normal : Bool) {matrix : Matrix3} {reason : Reason} {index : ℕ} → normalMatrixOf m normal ≡ Of matrix → inputsOf p normal false ≡ Refused reason index
       → transformedVerdict p normal m ≡ Refused reason index
   unfolding transformedVerdict transformedBy
   words-first normal inverse words = rw (inverse, words)
 
-  -- 14: the mode, word 1, is tested before anything else, the number too
+  -- the mode, word 1, is tested before anything else, the number too
   pub mode-first : (normal held : Bool) → 2 < wordAt p 1 → texturedVerdict p normal held m ≡ Refused OutOfRange 1
   unfolding texturedVerdict
   mode-first normal held h = rw (lt-leb _ _ h)
 
 module _ (p : List ℕ) (tri : List ClipVertex) (h : finite4 (corner tri 0 .position) ≡ false) where
-  -- 1: 14 and 16 refuse a transformed position that is not finite
+  -- 14 and 16 refuse a transformed position that is not finite
   pub overflow-refused : (normal : Bool) (matrix : Matrix3) → inputsOf p normal false ≡ Done → transformedBy p normal (Of matrix) tri ≡ Refused NotFinite (firstOf normal false 0)
   unfolding transformedBy
   overflow-refused normal matrix finite = rw (finite, h)
 
-  -- 1, 14: and so does 18, which points at the vertex's first word whatever that is
+  -- and so does 18, which points at the vertex's first word whatever that is
   pub overflow-refused-plain : (matrix : Matrix3) → texturedBy p false (Of matrix) tri ≡ Refused NotFinite 2
   unfolding texturedBy plainOf plainVertex
   overflow-refused-plain matrix = rw h

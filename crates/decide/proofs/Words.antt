@@ -1,4 +1,4 @@
--- Where the words of the four commands stand: facts over the two bools, each by its cases.
+-- Where the words of the four commands are: facts over the two bools, each by its cases.
 use Prim.Native.Nat.{_+_, _≤_}
 use mathlib.Core.Path.{_≡_, refl}
 use mathlib.Core.Bool.{Bool, true, false, cond}

@@ -1,4 +1,4 @@
--- What the checks hand on to the painter: the corners if the draw is accepted, and if it is refused fixed ones that nobody reads. Definitions only.
+-- What the checks hand on to the painter: the corners if the draw is accepted, and if it is refused, fixed ones that nobody reads. Definitions only.
 use mathlib.Core.List.{List, [], _∷_}
 use Rattle.ieee.specs.Units.{zero32}
 use Rattle.clip.specs.declared.vertex.ClipVertex.{ClipVertex}

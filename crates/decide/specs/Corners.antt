@@ -1,4 +1,4 @@
--- From the words of a float triangle to its corners. One vertex is its position, then its normal and its texture coordinates where the command has them, then its colour: the original, `draw_transformed_triangle_impl`, `draw_textured_triangle`, `draw_textured_lit_triangle`. Definitions only.
+-- From the words of a float triangle to its corners. One vertex is its position, then its normal and its texture coordinates if the command has them, then its colour. In the original: `draw_transformed_triangle_impl`, `draw_textured_triangle`, `draw_textured_lit_triangle`. Definitions only.
 --     has_normal   16 and 19
 --     textured     18 and 19, whose first two words are the texture's number and the mode
 use Prim.Native.Nat.{ℕ, _+_, _*_}
@@ -78,14 +78,14 @@ cornerOf p o normal textured m matrix =
 abbrev pub corner : List ClipVertex → ℕ → ClipVertex
 corner tri i = getD tri i noVertex
 
--- ---- rule 5.3, the normal matrix: of 16 and 19 the inverse of the model-view's, transposed; 14 and 18 never look
+-- ---- rule 5.3, the normal matrix: for 16 and 19 the inverse of the model-view's, transposed. 14 and 18 never read it
 abbrev pub zero3 : Matrix3
 zero3 = record { a = zero32; b = zero32; c = zero32; d = zero32; e = zero32; f = zero32; g = zero32; h = zero32; i = zero32 }
 
 unfoldable pub normalMatrixOf : List Float → Bool → Inverse
 normalMatrixOf m normal = cond normal (inverseTransposeOf (multiplyOf m 16 0)) (Of zero3)
 
--- the matrix, where there is one
+-- the matrix, if there is one
 abbrev pub orZero : Inverse → Matrix3
 orZero (Of matrix) = matrix
 orZero Singular = zero3

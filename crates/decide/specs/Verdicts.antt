@@ -20,7 +20,7 @@ abbrev pub invertibleOf : Inverse → Verdict
 invertibleOf (Of matrix) = Done
 invertibleOf Singular = Refused NotInvertible 0
 
--- reason 7: the number is not held. It is word 0 of every draw that has one
+-- reason 7: the number is not held. The number is word 0 of every draw that has one
 abbrev pub heldOf : Bool → Verdict
 heldOf held = cond held Done (Refused NotHeld 0)
 
@@ -31,7 +31,7 @@ finite4 v = finite (at v 0) && (finite (at v 1) && (finite (at v 2) && finite (a
 abbrev pub reachedOf : ClipVertex → ℕ → Verdict
 reachedOf v o = cond (finite4 (v .position)) Done (Refused NotFinite o)
 
--- the three vertices in turn: `check i`, of vertex i
+-- the three vertices in turn: `check i` is the check of vertex i
 abbrev pub eachOf : (ℕ → Verdict) → Verdict
 eachOf check = andThen (check 0) (andThen (check 1) (check 2))
 
@@ -50,7 +50,7 @@ unfoldable pub transformedVerdict : List ℕ → Bool → List Float → Verdict
 transformedVerdict p normal m = transformedBy p normal (normalMatrixOf m normal) (cornersOf p normal false m)
 
 -- ---- rule 3.12, 18 and 19
--- 18 never tests input positions: per vertex the transformed position, then u, v; 19 the words as they come, and no transformed position
+-- 18 never tests input positions. For each vertex it tests the transformed position, then u and v. 19 tests the words as they come, and no transformed position
 unfoldable pub plainVertex : List ℕ → ClipVertex → ℕ → Verdict
 plainVertex p v o = andThen (reachedOf v o) (finiteFrom p (o + 3) 2)
 
@@ -73,18 +73,18 @@ texturedVerdict p normal held m = andThen (atMost p 1 2) (andThen (heldOf held) 
 abbrev pub triangleOf : ℕ → List ℕ → List ℕ
 triangleOf mode words = wordAt words 0 ∷ mode ∷ take 27 (drop 1 words)
 
--- the first refused one gives the draw's verdict: n records from the words' start on. `has k`: a texture is held under k
+-- n records from the start of the words on: the first refused one gives the draw's verdict. `has k`: a texture is held under k
 unfoldable pub recordsVerdict : ℕ → (ℕ → Bool) → List Float → ℕ → List ℕ → Verdict
 recordsVerdict mode has m zero words = Done
 recordsVerdict mode has m (suc n) words =
     andThen (texturedVerdict (triangleOf mode words) true (has (wordAt words 0)) m) (recordsVerdict mode has m n (drop 28 words))
 
--- ---- what is refused in every state: range, and words that are no finite floats (request A4)
+-- ---- what is refused in every state: a mode out of range, and words that are no finite floats (request A4)
 abbrev pub refused : Verdict → Bool
 refused Done = false
 refused (Refused reason index) = true
 
--- That it is refused, and no more: the index is the command's own only where no check comes before these, and 18's is the vertex's first word
+-- These say that it is refused, and no more. Their index is the command's own only if no check comes before these, and 18 refuses a position at its vertex's first word
 abbrev pub alwaysTransformed : List ℕ → Bool → Verdict
 alwaysTransformed p normal = inputsOf p normal false
 

@@ -1,5 +1,5 @@
 // A float triangle's corners. A vertex is its position, then its normal and its texture coordinates
-// where the command has them, then its colour.
+// if the command has them, then its colour.
 use clip::vertex::ClipVertex;
 use ieee::bits::float_of;
 use payload::color_of;
@@ -105,7 +105,7 @@ pub fn corner(
     }
 }
 
-// Where there is none, nothing reads it.
+// What is handed on if there is no matrix for normals. Nothing reads it.
 pub fn no_matrix() -> Matrix3
     ensures { λ r. ⌜ r ≡ zero3 ⌝ }
 {
@@ -122,7 +122,7 @@ pub fn no_matrix() -> Matrix3
     }
 }
 
-// The matrix for normals, where the command has them.
+// The matrix for normals, if the command has them.
 pub fn normal_matrix(m: &[f32; 48], has_normal: bool) -> Inverse
     ensures { λ r. ⌜ r ≡ normalMatrixOf (now (m .entry)) «has_normal» ⌝ }
 {

@@ -1,5 +1,5 @@
-// What the checks of the float draws come to, in the original's order: each is made only where
-// those before it find nothing.
+// What the checks of the float draws come to, in the original's order. Each is made only if those
+// before it find nothing.
 use crate::corner::color_at;
 use crate::corner::corner;
 use crate::corner::corners;
@@ -72,7 +72,7 @@ fn inputs(p: &[u32], has_normal: bool, textured: bool) -> Verdict
     finite_from(p, first_word(has_normal, textured, 2), n)
 }
 
-// 14 and 16 test what the transformed positions are, after all words.
+// 14 and 16 test the transformed positions, after all words.
 fn positions(has_normal: bool, tri: [ClipVertex; 3]) -> Verdict
     ensures { λ r. ⌜ r ≡ eachOf (λ i. reachedOf (corners-of.corner tri i) (corners-of.firstOf «has_normal» false i)) ⌝ }
 {
@@ -87,7 +87,7 @@ fn positions(has_normal: bool, tri: [ClipVertex; 3]) -> Verdict
     reached(tri[2], first_word(has_normal, false, 2))
 }
 
-// 18 tests per vertex the transformed position, then the texture coordinates.
+// For each vertex 18 tests the transformed position, then the texture coordinates.
 fn plain_vertex(p: &[u32], v: ClipVertex, o: usize) -> Verdict
     requires { ⌜ length (now p) ≡ 20 ⌝ }
     requires { ⌜ o < 15 ⌝ }
@@ -168,7 +168,7 @@ pub fn transformed(p: &[u32], has_normal: bool, m: &[f32; 48]) -> Checked
 }
 
 // 19 tests the words as they come, and no transformed position: no corner is needed for its
-// verdict. The matrix for normals is in hand: the records of a model have one.
+// verdict. The matrix for normals is handed in: the records of a model share one.
 pub fn lit(p: &[u32], inverse: Inverse) -> Verdict
     requires { ⌜ length (now p) ≡ 29 ⌝ }
     ensures { λ r. ⌜ r ≡ texturedBy (now (p .entry)) true inverse [] ⌝ }

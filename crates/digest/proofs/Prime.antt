@@ -1,4 +1,4 @@
--- A product with the prime, 2^40 + 435, modulo 2^64: of the two halves with 435, and of the low digits with 2^40, only what is carried past 2^64 is left out. Assumes nothing.
+-- A product with the prime, 2^40 + 435, modulo 2^64: both halves times 435, and the low digits times 2^40. Only what is carried past 2^64 is left out. Assumes nothing.
 use Prim.Native.Nat.{ℕ, _+_, _*_, _/_, _%_}
 use mathlib.Core.Path.{_≡_, sym, ap, _∙_}
 use native.Mathlib.Nat.{mod-add-mod, add-mul-mod-self-right}

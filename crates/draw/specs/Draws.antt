@@ -1,4 +1,4 @@
--- The float draws whole, 14, 16, 18, 19 and 1B: what each paints, where it is done. Their verdicts are `decide`'s and `judge`'s; the picture is in `stroke`. Definitions only.
+-- The float draws whole, 14, 16, 18, 19 and 1B: what each paints if it is done. Their verdicts are `decide`'s and `judge`'s; the picture is in `stroke`. Definitions only.
 use Prim.Native.Nat.{ℕ, zero, suc}
 use mathlib.Core.Bool.{Bool, true, false, cond}
 use mathlib.Core.Option.{Option, none, some}
@@ -18,7 +18,7 @@ use Rattle.decide.specs.Corners.{corner, cornersOf}
 use Rattle.decide.specs.Verdicts.{transformedVerdict, checkedVerdict, triangleOf}
 use Rattle.lit.specs.Lit.{transformedLit, texturedLit}
 
--- rule 5.11, `flat_color`: vertex 0's of the triangle before clipping
+-- rule 5.11, `flat_color`: the colour of vertex 0 before clipping
 unfoldable pub flatColor : List ClipVertex → Color
 flatColor tri =
     let c = corner tri 0 .color in
@@ -46,13 +46,13 @@ texturedCorners s p normal =
 unfoldable pub texturedBrush : ℕ → ℕ → ℕ → List ClipVertex → Brush
 texturedBrush width height mode tri = Textured (record { width = width; height = height; mode = mode; color = flatColor tri })
 
--- corners that were decided, lit and with a texture
+-- corners that passed the checks, lit and with a texture
 unfoldable pub texturedStroke : Settings → ℕ → Bool → List ClipVertex → Whole → Stroke
 texturedStroke s mode normal corners u =
     let tri = texturedLit (s .«lighting_enabled») mode (s .lights) normal corners in
     stroke tri (texturedBrush (u .wide) (u .high) mode tri) (u .words)
 
--- where the mode is in range: a texture of these sides, and its words
+-- if the mode is in range: with a texture of these sides, and its words
 unfoldable pub heldStrokes : Settings → List ℕ → Bool → ℕ → ℕ → List ℕ → List Stroke
 heldStrokes s p normal width height texels =
     let tri = texturedCorners s p normal in

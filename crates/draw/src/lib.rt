@@ -26,7 +26,7 @@ ghost use Rattle.decide.specs.Verdicts.{transformedVerdict, texturedVerdict, re
 ghost use Rattle.draw.specs.Draws.{flatColor, shadedBrush, transformedStrokes, texturedBrush, texturedStroke, texturedStrokes, recordsStrokes, modelStrokes, hasIn};
 ghost use Rattle.judge.specs.Judge.{modelVerdict};
 
-// Vertex 0's, before clipping.
+// The colour of vertex 0, before clipping.
 fn flat_color(tri: [ClipVertex; 3]) -> Color
     ensures { λ r. ⌜ r ≡ flatColor tri ⌝ }
 {
@@ -98,7 +98,7 @@ fn textured_brush(slot: Slot, mode: u32, tri: [ClipVertex; 3]) -> Brush
     })
 }
 
-// Corners that were decided, lit and painted with the texture of a slot.
+// Corners that passed the checks are lit, and painted with the texture of a slot.
 fn paint_textured(
     plane: &mut [u8],
     depth_f32: &mut [f32],
@@ -161,7 +161,7 @@ pub fn draw_textured_triangle(
     verdict
 }
 
-// A triangle of a model, with the matrix for normals in hand.
+// A triangle of a model, with the matrix for normals handed in.
 fn draw_record(
     plane: &mut [u8],
     depth_f32: &mut [f32],
@@ -191,7 +191,7 @@ fn draw_record(
     verdict
 }
 
-// The first n records, each painted where it is not refused.
+// The first n records, each painted if it is not refused.
 fn draw_records(
     plane: &mut [u8],
     depth_f32: &mut [f32],

@@ -40,7 +40,7 @@ module _ (s : Settings) (x : Setting) (p : List ℕ) where
   unfolding settingsAfter
   set-whole n = rw (eq-eqb (length p) (settingWords x) n)
 
-  -- where x is y
+  -- if x is y
   pub set-as : length p ≡ settingWords x → (y : Setting) → x ≡ y → settingsAfter s x p ≡ setBy s y p
   set-as n y e = set-whole n ∙ ap (λ (z : Setting). setBy s z p) e
 

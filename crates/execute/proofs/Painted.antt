@@ -32,7 +32,7 @@ module _ (look : Look) (s : Settings) (d : Draw) (p : List ℕ) where
   unfolding paintsOn
   by-length n v a f = rw (painted-short n) (f, refl)
 
-  -- where d is e, what its arm gives is what the command gives
+  -- if d is e, what its arm gives is what the command gives
   pub by-draw : length p ≡ drawWords d → (e : Draw) → d ≡ e → (v : Verdict) (a b : Picture) → v ≡ drawnBy look s e p .verdict → b ≡ paintsOn (drawnBy look s e p .paints) a
       → (v ≡ paintedBy look s d p .verdict) × (b ≡ paintsOn (paintedBy look s d p .paints) a)
   by-draw n e is v a b f g = rw (painted-whole n, is) (f, g)

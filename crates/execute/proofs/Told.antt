@@ -1,4 +1,4 @@
--- What an opcode is, and what a command tells by what it is: all that other proofs cite of `commandOf` and of `told`. Assumes nothing.
+-- What an opcode is, and what a command says by what it is: all that other proofs cite of `commandOf` and of `told`. Assumes nothing.
 use Prim.Native.Nat.{ℕ}
 use mathlib.Core.Path.{_≡_, refl}
 use mathlib.Core.Bool.{Bool, true, false, cond}

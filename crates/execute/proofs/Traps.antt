@@ -1,4 +1,4 @@
--- What uploads are told where a reader may expect otherwise. Assumes nothing.
+-- What the checks of uploads come to that a reader may not expect. Assumes nothing.
 use Prim.Native.Nat.{ℕ, _≤_, _+_, _*_}
 use mathlib.Core.Path.{_≡_, refl}
 use mathlib.Core.List.{List, [], _∷_}

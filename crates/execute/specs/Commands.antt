@@ -57,7 +57,7 @@ pub record Load : Type 0 where
   pub kind : Kind
   pub whole : Whole
 
--- what a command tells: a verdict, the settings after it, what is painted, and what is to be kept
+-- what a command says: a verdict, the settings after it, what is painted, and what is to be kept
 pub record Told : Type 0 where
   pub verdict : Verdict
   pub settings : Settings
@@ -74,7 +74,7 @@ unknown = Refused UnknownOpcode 0
 abbrev pub wrongLength : Verdict
 wrongLength = Refused WrongLength 0
 
--- what a payload of just n words gives, and else
+-- a if the payload has exactly n words, else b
 abbrev pub ofLength : {A : Type 0} → ℕ → List ℕ → A → A → A
 ofLength n p a b = cond (eqb (length p) n) a b
 
@@ -105,7 +105,7 @@ textureVerdict p =
     (cond (ltb 1024 h) (Refused OutOfRange 2)
     (ofLength (3 + areaOf Texture w h) p Done wrongLength)))))
 
--- rule 3.14: 1A the least length, then its count, then the exact length
+-- rule 3.14: 1A tests the least length, then its count, then the exact length
 unfoldable pub countVerdict : List ℕ → Verdict
 countVerdict p =
     cond (ltb (length p) 2) wrongLength
@@ -140,7 +140,7 @@ refused v = painted v []
 unfoldable pub rgbaOf : ℕ → Rgba
 rgbaOf w = record { r = w / 16777216; g = w / 65536 % 256; b = w / 256 % 256; a = w % 256 }
 
--- rule 3.6, of 04: what the two lowest flags ask is painted, and flags above 3 are refused
+-- rule 3.6, for 04: what the two lowest flags ask for is painted, and flags above 3 are refused
 abbrev pub when : Bool → Paint → List Paint
 when b a = cond b (a ∷ []) []
 

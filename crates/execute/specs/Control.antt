@@ -1,4 +1,4 @@
--- Control: what the words so far have left, the picture apart; and a command on it, over any way of keeping uploads. `Kept.antt` has one way, slots over lent words; the plain machine's, a whole history, is another. The original, `execute`. Definitions only.
+-- Control: what the words so far have left, except the picture; and what a command makes of it, with any way of keeping uploads. `Kept.antt` has one way, slots over lent words. That of the plain machine, a whole history, is another. The original, `execute`. Definitions only.
 use Prim.Native.Nat.{ℕ}
 use mathlib.Core.Bool.{cond}
 use mathlib.Core.Option.{Option, none, some}
@@ -16,7 +16,7 @@ use Rattle.execute.specs.Paints.{Paint, Picture, paintsOn}
 use Rattle.execute.specs.Commands as commands
 use Rattle.execute.specs.Commands.{Look, Load, Told}
 
--- a way of keeping uploads, and the payload of the command begun. `room` is asked of uploads that passed their checks, and `put` told of those that have room
+-- a way of keeping uploads, and the payload of the command begun. `room` is asked for uploads that passed their checks, and `put` is used for those that have room
 pub record Keep (X : Type 0) : Type 0 where
   pub look : X → Look
   pub room : X → Load → Room
@@ -25,7 +25,7 @@ pub record Keep (X : Type 0) : Type 0 where
   pub add : ℕ → X → X
   pub clear : X → X
 
--- what the words so far have left: the picture apart
+-- what the words so far have left, except the picture
 pub record Control (X : Type 0) : Type 0 where
   pub settings : Settings
   pub notes : Notes
@@ -38,7 +38,7 @@ pub record Step (X : Type 0) : Type 0 where
   pub control : Control X
   pub paints : List Paint
 
--- a machine: control, and the picture, which paints alone change
+-- a machine: control, and the picture, which only paints change
 pub record Seen (X : Type 0) : Type 0 where
   pub control : Control X
   pub picture : Picture
@@ -53,7 +53,7 @@ roomVerdict NoSlot = Refused reason.NoSlot 0
 roomVerdict NoWords = Refused reason.NoWords 0
 
 module _ {X : Type 0} (K : Keep X) where
-  -- the verdict of a command, and the uploads after it: one that passed its checks is kept where it has room
+  -- the verdict of a command, and the uploads after it: one that passed its checks is kept if it has room
   abbrev pub verdictOf : X → Told → Option Load → Verdict
   verdictOf x t none = t .verdict
   verdictOf x t (some l) = roomVerdict (K .room x l)

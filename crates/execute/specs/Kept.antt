@@ -43,7 +43,7 @@ pub record Shelved : Type 0 where
 abbrev pub shelved : Verdict → Shelf → Shelved
 shelved v s = record { verdict = v; shelf = s }
 
--- of one that passed its checks, and of one whose checks came to v
+-- for an upload that passed its checks, and for one whose checks came to v
 unfoldable pub keptOn : Kind → Shelf → Whole → Shelved
 keptOn k s u = shelved (roomVerdict (roomOn k s u)) (cond (isFits (roomOn k s u)) (putOn k s u) s)
 
@@ -55,7 +55,7 @@ pub record Formed (k : Kind) (slots : List Slot) (n : ℕ) : Type 0 where
   pub ok : slotsOk k n 0 slots ≡ true
   pub few : n ≤ mostWords
 
--- what two stores tell
+-- what two stores have under a number
 abbrev pub lookOn : Shelf → Shelf → Look
 lookOn t m Texture n = lookIn Texture (t .slots) (t .words) n
 lookOn t m Model n = lookIn Model (m .slots) (m .words) n

@@ -46,7 +46,7 @@ pub fn command_of(opcode: u32) -> Command
     }
 }
 
-// How many payload words a command has that sets, and one that paints.
+// How many payload words a command that sets has, and one that paints.
 pub fn setting_words(setting: Setting) -> usize
     ensures { λ r. ⌜ r ≡ settingWords setting ⌝ }
 {

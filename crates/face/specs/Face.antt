@@ -1,4 +1,4 @@
--- The set-up of a float triangle, which both rasterisers share: what stands before their loops in the original. Definitions only.
+-- The set-up of a float triangle, which both rasterisers share: what comes before their loops in the original. Definitions only.
 use mathlib.Core.Bool.{Bool, cond, _||_}
 use mathlib.Core.List.{List}
 use Prim.Native.Nat.{ℕ, _≤_}
@@ -51,15 +51,15 @@ pointOf split p v =
 unfoldable pub edgeOf : Point → Point → Float → Float → Float
 edgeOf a b x y = (x ⊖ a .x) · (b .y ⊖ a .y) ⊖ (y ⊖ a .y) · (b .x ⊖ a .x)
 
--- `min_x`, `min_y`: the least of three floors, and 0 where that is below 0
+-- `min_x`, `min_y`: the least of three floors, and 0 if that is below 0
 unfoldable pub minOf : Float → Float → Float → ℕ
 minOf a b c = natOf (minZ (minZ (floorOf a) (floorOf b)) (floorOf c))
 
--- one more than `max_x`, `max_y`, the greatest of three ceilings cut at the last column or row; 0 where it is below 0
+-- one more than `max_x`, `max_y`, the greatest of three ceilings cut at the last column or row; 0 if it is below 0
 unfoldable pub pastOf : Float → Float → Float → ℕ → ℕ
 pastOf a b c last = natOf (sucℤ (minZ (maxZ (maxZ (ceilOf a) (ceilOf b)) (ceilOf c)) (pos last)))
 
--- rule 5.9: the box, part of the rule: rounding can let the edges cover a pixel outside it
+-- rule 5.9: the box. It is part of the rule, since rounding can let the edges cover a pixel outside it
 unfoldable pub boundsOf : Point → Point → Point → Bounds
 boundsOf a b c =
     record {
@@ -94,7 +94,7 @@ setupOf split tri =
     let face = faceOf split p q r in
     cond (behindOf p || (behindOf q || behindOf r)) Nothing (cond (tinyOf (face .area)) Nothing (Drawn face))
 
--- a box ends on the screen
+-- the box, if there is one, ends on the screen
 abbrev pub OnScreen : Setup → Type 0
 OnScreen (Drawn f) = (f .bounds .right ≤ width) × (f .bounds .bottom ≤ height)
 OnScreen Nothing = Unit

@@ -58,7 +58,7 @@ fn inverse(p: [f32; 4]) -> f32
     1.0 / p[3]
 }
 
-// v is 1 / w. `split`: by the side of the screen and then by 0.5, as for textured triangles.
+// v is 1 / w. `split`: times the side of the screen and then times 0.5, as for textured triangles.
 fn point_of(split: bool, p: [f32; 4], v: f32) -> Point
     ensures { λ r. ⌜ r ≡ pointOf split p v ⌝ }
 {
@@ -265,8 +265,8 @@ pub fn edges_of(f: Face, y: usize) -> Edges
     }
 }
 
-// Are all three edges on the area's side? The area is asked first, as in the original: asked at each
-// edge, the compiler made both comparisons of each.
+// Are all three edges on the area's side? The area is tested first: tested at each edge, it made
+// the compiler do both comparisons of each.
 pub fn inside(area: f32, w0: f32, w1: f32, w2: f32) -> bool
     ensures { λ r. ⌜ r ≡ insideOf area w0 w1 w2 ⌝ }
 {
@@ -293,7 +293,8 @@ pub fn mix(b: Corners, v: Corners) -> f32
     b.c0 * v.c0 + b.c1 * v.c1 + b.c2 * v.c2
 }
 
-// Does a depth show over an old one? A NaN, here or there, fails every comparison, and so shows.
+// Does a depth show over an old one? Every comparison with a NaN fails, so a NaN shows, and so does
+// a depth from 0 to 1 over a NaN.
 pub fn passes(z: f32, old: f32) -> bool
     ensures { λ r. ⌜ r ≡ passesOf z old ⌝ }
 {

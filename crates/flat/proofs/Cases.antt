@@ -50,12 +50,12 @@ corner-done : (z0 z1 z2 : ℕ) → flatVerdict (corner z0 z1 z2) ≡ Done
 unfolding flatVerdict inReach
 corner-done z0 z1 z2 = refl
 
--- how many of the first n pixels it shows at, where nothing was drawn
+-- how many of the first n pixels it shows at, if nothing was drawn before
 pub count : Tri → ℕ → ℕ
 count t zero = 0
 count t (suc k) = cond (shows t k far) 1 0 + count t k
 
--- ---- case 6: "Flat (0,0), (4,0), (0,4), all depth 10, after reset: 15 pixels, (2,2) among them, (3,2) not"
+-- ---- rule 9.6
 abbrev pub six : List ℕ
 six = corner 10 10 10
 
@@ -91,7 +91,7 @@ case-6 D e = (
   depth-fresh six D e (corner-done 10 10 10) (2 * width + 3) (omega arith),
 )
 
--- ---- case 7: "Same corners, depths 0, 3, -3: depth at (2,0) is 1, at (0,1) 0, at (0,2) -1"
+-- ---- rule 9.7
 abbrev pub seven : List ℕ
 seven = corner 0 3 4294967293
 
@@ -104,7 +104,7 @@ case-7 D e = (
   depth-fresh seven D e (corner-done 0 3 4294967293) (2 * width) (omega arith),
 )
 
--- ---- case 8: "All depths 2147483647: nothing drawn after reset"
+-- ---- rule 9.8
 abbrev pub eight : List ℕ
 eight = corner 2147483647 2147483647 2147483647
 
@@ -140,14 +140,14 @@ case-8 D P e whole =
     old : (k : ℕ) → k < pixels → getD D k (pos 0) ≡ far
     old k h = ap (λ (xs : List ℤ). getD xs k (pos 0)) e ∙ getD-replicate pixels k far (pos 0) h
 
--- ---- case 9: "Channel 128, shade 128: 64 before dither. Shade 300 counts as 255", whatever the corners
+-- ---- rule 9.9, whatever the corners
 pub case-9 : (a b c d e f g h i rgb : ℕ)
     → (triOf (a ∷ b ∷ c ∷ d ∷ e ∷ f ∷ g ∷ h ∷ i ∷ 0x80_8080 ∷ 128 ∷ []) .color ≡ record { r = 64; g = 64; b = 64; a = 255 })
     × (triOf (a ∷ b ∷ c ∷ d ∷ e ∷ f ∷ g ∷ h ∷ i ∷ rgb ∷ 300 ∷ []) ≡ triOf (a ∷ b ∷ c ∷ d ∷ e ∷ f ∷ g ∷ h ∷ i ∷ rgb ∷ 255 ∷ []))
 unfolding triOf shadedOf
 case-9 a b c d e f g h i rgb = (refl, refl)
 
--- ---- case 10: "A coordinate of 8192 is taken; 8193 gives status 8", on either side; the index is that of the coordinate, the first of several
+-- ---- rule 9.10, on either side; the index is that of the coordinate, the first of several
 abbrev pub utmost : List ℕ
 utmost = 8192 ∷ 4294959104 ∷ 0 ∷ 8192 ∷ 8192 ∷ 2147483648 ∷ 4294959104 ∷ 8192 ∷ 2147483647 ∷ 0xff_ffff ∷ 255 ∷ []
 

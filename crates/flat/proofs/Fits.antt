@@ -117,7 +117,7 @@ area-fits p =
 pub depths : {t : Tri} → Placed t → SFits w64 (t .z0) × SFits w64 (t .z1) × SFits w64 (t .z2)
 depths p = (B.fits tt (B.within32 (p .in-z0)), B.fits tt (B.within32 (p .in-z1)), B.fits tt (B.within32 (p .in-z2)))
 
--- what `weighted` asks, where the triangle covers a pixel
+-- what `weighted` asks, if the triangle covers a pixel
 pub weighed : {t : Tri} → Placed t → (x y : ℕ) → x < width → y < height → covers t x y ≡ true
     → Weighed (areaOf t) (weight0 t x y) (weight1 t x y) (weight2 t x y) (t .z0) (t .z1) (t .z2)
 unfolding covers

@@ -17,7 +17,7 @@ use Rattle.flat.specs.Edge.{reach}
 use Rattle.flat.specs.Tri.{Placed}
 use Rattle.flat.specs.Words.{signedAt, inReach, firstOut, flatVerdict, triOf}
 
--- what the first word of a list that is not refused tells, and the rest
+-- if a list is not refused, its first word is in reach and the rest is not refused
 first-in : (p : List ℕ) (k : ℕ) (ks : List ℕ) → firstOut p (k ∷ ks) ≡ Done → Within reach (signedAt p k) × (firstOut p ks ≡ Done)
 unfolding inReach
 first-in p k ks e = go (inReach (signedAt p k)) refl e

@@ -1,4 +1,4 @@
--- What `insideOf` tells: three weights of the area's sign. Assumes nothing.
+-- What `insideOf` says: three weights of the area's sign. Assumes nothing.
 use mathlib.Core.Path.{_≡_, refl, ap}
 use mathlib.Core.Bool.{Bool, true, false, cond, _&&_, _||_}
 use Prim.Native.Nat.{ℕ, suc, _<_}
@@ -71,7 +71,7 @@ pub divisor : (area w0 w1 w2 : ℤ) → SFits w64 area → Signs area w0 w1 w2 �
 divisor area w0 w1 w2 f (ups a0 a1 a2 e0 e1 e2 p) = positive area f p
 divisor area w0 w1 w2 f (downs a0 a1 a2 e0 e1 e2 p) = negative area f p
 
--- the three edges, one by one, where the area is positive
+-- the three edges, one by one, if the area is positive
 module _ (area w0 w1 w2 : ℤ) (up : ltZ (pos 0) area ≡ true) where
   pub inside-yes : leZ (pos 0) w0 ≡ true → leZ (pos 0) w1 ≡ true → leZ (pos 0) w2 ≡ true → insideOf area w0 w1 w2 ≡ true
   unfolding insideOf hasArea agreesOf

@@ -1,4 +1,4 @@
--- What the steps of a draw are told, and what they leave. Assumes nothing.
+-- What the steps of a draw are given, and what they leave. Assumes nothing.
 use mathlib.Core.Path.{_≡_}
 use mathlib.Core.Bool.{true, false}
 use mathlib.Core.List.{List}

@@ -1,4 +1,4 @@
--- The original's `edge`, and what three of them tell of a pixel. Assumes nothing.
+-- The original's `edge`, and what three of them say about a pixel. Assumes nothing.
 use mathlib.Core.Path.{_≡_}
 use mathlib.Core.Bool.{Bool, true, cond, _&&_, _||_}
 use Prim.Native.Nat.{ℕ, _+_, _*_}
@@ -17,7 +17,7 @@ reach = 8192
 unfoldable pub edgeOf : ℤ → ℤ → ℤ → ℤ → ℤ → ℤ → ℤ
 edgeOf ax ay bx by px py = (px -ℤ ax) *ℤ (by -ℤ ay) -ℤ (py -ℤ ay) *ℤ (bx -ℤ ax)
 
--- rule 4.3, `inside`, of one edge: 0 agrees with either sign
+-- rule 4.3, `inside`, for one edge: 0 agrees with either sign
 unfoldable pub agreesOf : ℤ → ℤ → Bool
 agreesOf area w = cond (ltZ (pos 0) area) (leZ (pos 0) w) (leZ w (pos 0))
 
@@ -46,7 +46,7 @@ pub record Near (ax ay bx by px py : ℤ) : Type 0 where
 abbrev pub span : ℕ
 span = reach + reach
 
--- an edge at a pixel of the screen
+-- at a pixel of the screen an edge is at most this in size
 abbrev pub steepest : ℕ
 steepest = (width + reach) * span + (height + reach) * span
 

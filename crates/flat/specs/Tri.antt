@@ -13,7 +13,7 @@ use Rattle.screen.specs.Draw.{depthStep, byteStep}
 use Rattle.flat.specs.declared.tri.Tri.{Tri}
 use Rattle.flat.specs.Edge.{reach, edgeOf, insideOf, weightedOf}
 
--- a triangle that is not refused: its coordinates are in reach, its depths of 32 bits
+-- a triangle that is not refused: its coordinates are in reach, and its depths are of 32 bits
 pub record Placed (t : Tri) : Type 0 where
   pub in-x0 : Within reach (t .x0)
   pub in-y0 : Within reach (t .y0)

@@ -23,7 +23,7 @@ signedAt p k = toZ w32 (getD p k 0)
 unfoldable pub shadedOf : ℕ → ℕ → ℕ
 shadedOf c shade = c * min shade 255 / 255
 
--- rules 4.1 and 4.6: corner by corner x, y and depth; the colour, its top byte unused; the shade
+-- rules 4.1 and 4.6: x, y and depth of each corner; the colour, whose top byte is not used; the shade
 unfoldable pub triOf : List ℕ → Tri
 triOf p =
     let rgb : ℕ = getD p 9 0 in

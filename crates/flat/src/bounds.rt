@@ -19,7 +19,7 @@ pub struct Bounds {
     pub bottom: usize,
 }
 
-// A coordinate cut to the first n columns or rows: those below it are before it.
+// A coordinate brought to the range from 0 to n: columns or rows below that are before it.
 fn low(a: i64, n: usize) -> usize
     requires { ⌜ n ≤ width ⌝ }
     ensures { λ r. ⌜ (r ≤ n) × ((x : ℕ) → x < r → ltZ (pos x) a ≡ true) ⌝ }
@@ -33,7 +33,7 @@ fn low(a: i64, n: usize) -> usize
     a as usize
 }
 
-// One more than that: those from it on are beyond it.
+// The first of n columns or rows that is beyond a coordinate, or n.
 fn high(a: i64, n: usize) -> usize
     requires { ⌜ n ≤ width ⌝ }
     ensures { λ r. ⌜ (r ≤ n) × ((x : ℕ) → r ≤ x → x < n → ltZ a (pos x) ≡ true) ⌝ }

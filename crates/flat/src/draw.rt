@@ -14,7 +14,7 @@ ghost use Rattle.flat.specs.Row.{edgesOf};
 ghost use Rattle.flat.specs.Tri.{Placed, weight0, weight1, weight2, covers, triDepths, triPlane};
 ghost use Rattle.flat.specs.Drawing.{turnedOf, Ready, Boxed, TriDrawn};
 
-// A pixel that the triangle covers, by its edges there: it shows where it is nearer.
+// A pixel that the triangle covers, with its edges there: it is drawn if it is nearer.
 fn cover(
     plane: &mut [u8],
     depth: &mut [i32],
@@ -110,8 +110,8 @@ fn turned(t: Tri) -> Tri
     }
 }
 
-// Where the original tests edges against the sign of the area, a triangle of negative area is turned
-// first, so that inside is always where no edge is negative.
+// The original tests edges against the sign of the area. Here a triangle of negative area is turned
+// first, so that a pixel is inside if no edge is negative.
 pub fn draw_tri(plane: &mut [u8], depth: &mut [i32], t: Tri)
     requires { ⌜ Placed t ⌝ }
     requires { ⌜ length (now plane) ≡ planeBytes ⌝ }

@@ -1,4 +1,4 @@
-// Edges: the original's `edge`, what a row keeps of one, and what three of them tell of a pixel.
+// Edges: the original's `edge`, what a row keeps of one, and what three of them say about a pixel.
 use crate::tri::Tri;
 ghost use mathlib.Core.Path.{_≡_};
 ghost use Prim.Native.Nat.{_<_};

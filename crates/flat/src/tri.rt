@@ -1,4 +1,4 @@
-// Command 12's eleven words: corner by corner x, y and depth, then the colour and the shade.
+// Command 12's eleven words: x, y and depth of each corner, then the colour and the shade.
 use screen::plane::Rgba;
 use verdict::Verdict;
 use verdict::out_of_range;

@@ -188,7 +188,7 @@ module _ (f : Frame) (w : ℕ) where
             let h = begun-fits _ _ _ ok in
             rw (word-payload f w n) (omega arith)
 
-    -- where no command is to be run, what is begun may be begun
+    -- if no command is to be run, what is begun may be begun
     pub word-begun : w < 4294967296 → readyOf (wordFrame f w) ≡ false → begunOk (wordFrame f w .opcode) (wordFrame f w .gathered) (wordFrame f w .wanted) ≡ true
     word-begun l r = go (case-of f w)
       where

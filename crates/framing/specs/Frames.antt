@@ -31,7 +31,7 @@ withFrame s f = record {
   notes = f .notes;
 }
 
--- a header of this opcode is dropped; and a command has ended
+-- the frame after a header of this opcode is dropped, and after a command has ended
 abbrev pub droppedFrame : Frame → ℕ → Reason → Frame
 droppedFrame f op r = frame (f .opcode) (f .gathered) (f .wanted) (notedOf (f .notes) op (Refused r 0))
 
@@ -49,7 +49,7 @@ wordFrame f w = cond (eqb (f .wanted) 0) (headerFrame f w) (frame (f .opcode) (f
 unfoldable pub wordArea : Frame → ℕ → List ℕ → List ℕ
 wordArea f w area = cond (eqb (f .wanted) 0) area (set area (f .gathered) w)
 
--- of so many words, those that are payload before the last one wanted; and the frame after n payload words
+-- how many of the words left are payload before the last one wanted; and the frame after n payload words
 abbrev pub betweenOf : Frame → ℕ → ℕ
 betweenOf f left = min left (f .wanted - 1)
 

@@ -1,5 +1,5 @@
-// The framing's four numbers, apart from the rest of the state: a payload word moves them and
-// nothing else.
+// The framing's four numbers, apart from the rest of the state: a payload word changes them and
+// nothing else of the state.
 use state::MAX_COMMAND_WORDS;
 use state::State;
 use verdict::Notes;
@@ -122,7 +122,7 @@ pub fn ready(f: Frame) -> bool
     false
 }
 
-// How many of the words left can be payload and leave the command wanting its last: they make a run.
+// How many of the words left are payload before the last one wanted: they make a run.
 pub fn between(f: Frame, left: usize) -> usize
     ensures { λ r. ⌜ r ≡ betweenOf f left ⌝ }
 {

@@ -1,4 +1,4 @@
--- The whole part of a number: below 2 ^ 24 from its bit pattern, and where comparisons settle it. Assumes nothing.
+-- The whole part of a number: below 2 ^ 24 from its bit pattern, and when comparisons settle it. Assumes nothing.
 use mathlib.Core.Path.{_≡_, refl, sym, ap, _∙_}
 use mathlib.Core.Bool.{Bool, true, false}
 use Prim.Native.Nat.{ℕ, _+_, _-_, _*_, _/_, _%_, _^_, _≤_, _<_, min}

@@ -52,7 +52,7 @@ most-three a b c last = rw (least-after (maxZ (maxZ a b) c) (pos last), most-aft
 pub first-three : (a b c : Float) → min (min (firstOf a) (firstOf b)) (firstOf c) ≡ natOf (minZ (minZ (floorOf a) (floorOf b)) (floorOf c))
 first-three a b c = least-three (floorOf a) (floorOf b) (floorOf c)
 
--- one more than Rust's `ceils.max().min(last)`, and 0 where that is below 0
+-- one more than Rust's `ceils.max().min(last)`, and 0 if that is below 0
 pub past-three : (a b c : Float) (last : ℕ)
     → min (max (max (pastOf a) (pastOf b)) (pastOf c)) (last + 1) ≡ natOf (sucℤ (minZ (maxZ (maxZ (ceilOf a) (ceilOf b)) (ceilOf c)) (pos last)))
 past-three a b c last = most-three (ceilOf a) (ceilOf b) (ceilOf c) last

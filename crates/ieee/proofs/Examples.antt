@@ -17,12 +17,12 @@ pub root-of-two : root (v 0x4000_0000) ≡ v 0x3fb5_04f3
 unfolding root ofBits
 root-of-two = refl
 
--- of 2 ^ -149
+-- the root of 2 ^ -149
 pub root-of-least : root (v 1) ≡ v 0x1a35_04f3
 unfolding root ofBits
 root-of-least = refl
 
--- of the largest subnormal, the largest number, -0.0 and -1
+-- the roots of the largest subnormal, the largest number, -0.0 and -1
 pub roots :
     (root (v 0x007f_ffff) ≡ v 0x1fff_ffff)
     × (root (v 0x7f7f_ffff) ≡ v 0x5f7f_ffff)
@@ -72,7 +72,7 @@ pub unit-bytes : (unitByteOf (v 0x3f00_0000) ≡ 128) × (unitByteOf (v 0x3f80_0
 unfolding wholes ofBits add mul
 unit-bytes = (refl, refl)
 
--- ---- to a range: NaN and -0.0 stay where they are clamped, and are 0.0 where the greater of it and 0.0 is taken
+-- ---- to a range: clamping keeps NaN and -0.0, and the maximum with 0.0 makes each of them 0.0
 pub ranges :
     (clampOf nan ≡ nan)
     × (clampOf (v 0x8000_0000) ≡ v 0x8000_0000)

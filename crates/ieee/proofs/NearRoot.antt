@@ -22,7 +22,7 @@ square-le r h = mul-le-mul h h
 twice-square : (r : ℕ) → 2 * r * (2 * r) ≡ 4 * (r * r)
 twice-square r = simp (mul-assoc, mul-left-comm) (simp (← mul-assoc))
 
--- of two different numbers only one is nearest
+-- only one of two different numbers is nearest
 apart : (a c w : ℕ) → c < w → Near a c → Near a w → ⊥
 apart a c zero h p q = omega arith
 apart a c (suc v) h p q =

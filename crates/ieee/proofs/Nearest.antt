@@ -1,4 +1,4 @@
--- What the definition of the root means: no value of binary32 is as near to the root of x as `root x` is, and no second value has that property.
+-- What the definition of the root means: no other value of binary32 is as near to the root of x as `root x` is, and no second value has that property.
 -- So a tie never comes up. Assumes nothing.
 use mathlib.Core.Path.{_≡_, refl, sym, ap, subst, _∙_}
 use mathlib.Core.Bool.{Bool, true, false, cond, not, _&&_}
@@ -115,7 +115,7 @@ below a e p y P h k =
     let l : (e + 1) * p + y ≤ m * p = omega (arith, add-mul e (e + 1) p) in
     lt-of-le-of-lt (mul-le-mul l l) (lt-of-le-of-lt (le-of-eq (square m p)) (lt-of-lt-of-le (mul-lt-mul-of-pos-right s (mul-pos P P)) (le-of-eq (sym (four a (p * p))))))
 
--- Below c * p the values may lie closer than p apart, where c is the least number of 24 digits. There c * p is not above the root.
+-- Below c * p the values may lie closer than p apart if c is the least number of 24 digits. Then c * p is not above the root.
 less : (a c p y : ℕ) → 0 < p → 8388608 ≤ c → 70368744177664 ≤ a → c * c < a + c → (8388608 * p ≤ y → (w : ℕ) × (y ≡ w * p)) → y < c * p → (c * p + y) * (c * p + y) < 4 * (a * (p * p))
 less a zero p y P l A n f h = absurd (omega arith)
 less a (suc e) p y P l A n f h = elim (decLe (suc e) 8388608) [ yes g ↦ least (omega arith) | no g ↦ rest (lt-of-not-le g) ]

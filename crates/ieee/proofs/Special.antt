@@ -1,4 +1,4 @@
--- The root where it is no matter of rounding; and that rounding it never meets a tie. Assumes nothing.
+-- The root when it is no matter of rounding; and that rounding it never meets a tie. Assumes nothing.
 use mathlib.Core.Path.{_≡_, refl}
 use mathlib.Core.Bool.{Bool, true, false}
 use Prim.Native.Nat.{ℕ, suc, _+_, _*_, _^_, _<_}

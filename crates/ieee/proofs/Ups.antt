@@ -69,8 +69,8 @@ whole-float : (n : ℕ) → n < 2 ^ 32 → HasValue (ofInt binary64 (pos n)) fal
 unfolding ofInt
 whole-float n h = round-whole binary64 false n (omega arith)
 
--- ---- what `cut_up` answers, of n, which is x cut at last
--- n is the whole part w where that is below last
+-- ---- what `cut_up` answers, from n, which is x cut at last
+-- n is the whole part w if n is below last
 own : (n w last : ℕ) → n ≡ min w last → n < last → n ≡ w
 own n w last c h = omega arith
 

@@ -1,4 +1,4 @@
--- The ends of a box of pixels around float corners, as the source has them (signed) and from 0 on. Definitions only.
+-- The ends of a box of pixels around float corners: signed, as the source has them, and as numbers from 0 on. Definitions only.
 use Prim.Native.Nat.{ℕ, min, max}
 use lib.IntN.{ℤ, pos, negsuc, sucℤ}
 use lib.Ieee.{Float}
@@ -22,10 +22,10 @@ maxZ (pos a) (negsuc b) = pos a
 maxZ (negsuc a) (pos b) = pos b
 maxZ (negsuc a) (negsuc b) = negsuc (min a b)
 
--- the first column or row of a box from x on: x.floor() as i32, and 0 where that is below 0
+-- the first column or row of a box from x on: x.floor() as i32, and 0 if that is below 0
 abbrev pub firstOf : Float → ℕ
 firstOf x = natOf (floorOf x)
 
--- the first one past a box up to x: one more than x.ceil() as i32, and 0 where that is below 0
+-- the first one past a box up to x: one more than x.ceil() as i32, and 0 if that is below 0
 abbrev pub pastOf : Float → ℕ
 pastOf x = natOf (sucℤ (ceilOf x))

@@ -39,6 +39,6 @@ byteOf x = cutOf x 255
 abbrev pub unitByteOf : Float → ℕ
 unitByteOf v = byteOf (add binary32 (mul binary32 v (ofBits binary32 0x437f_0000)) (ofBits binary32 0x3f00_0000))
 
--- rule 5.12, Rust's `(u * side as f32).floor().clamp(0.0, (side - 1) as f32) as usize`, for sides up to 2 ^ 24, which `texel` asks: a texture's are at most 1024
+-- rule 5.12, Rust's `(u * side as f32).floor().clamp(0.0, (side - 1) as f32) as usize`, for sides up to 2 ^ 24, as `texel` requires. Those of a texture are at most 1024
 abbrev pub texelOf : Float → ℕ → ℕ
 texelOf u side = cutOf (mul binary32 u (ofInt binary32 (pos side))) (side - 1)

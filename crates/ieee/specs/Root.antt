@@ -1,6 +1,6 @@
 -- The square root (rules 7.5 and 7.8), to nearest over whole numbers. Definitions only.
--- For x = n * 2 ^ -149 the root is √(n * 2 ^ 149) times 2 ^ -149, so all is said of the whole number n * 2 ^ 149.
--- That this is the nearest value, that no second one is, and that no tie comes up: proofs/Nearest.antt.
+-- For x = n * 2 ^ -149 the root is √(n * 2 ^ 149) times 2 ^ -149, so all is said about the whole number n * 2 ^ 149.
+-- proofs/Nearest.antt shows that this is the nearest value and that no second one is, and proofs/Special.antt that no tie comes up.
 use Prim.Native.Nat.{ℕ, zero, suc, _+_, _-_, _*_, _/_, _^_, _<_}
 use mathlib.Core.Bool.{true, false, cond}
 use lib.Dec.{leb}

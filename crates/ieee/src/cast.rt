@@ -7,8 +7,8 @@ ghost use lib.Ieee.{binary32, ofBits, le};
 ghost use Rattle.ieee.specs.Casts.{cutOf, cutUpOf, floorOf, ceilOf, byteOf, unitByteOf, texelOf};
 ghost use Rattle.ieee.specs.Box.{firstOf, pastOf};
 
-// x rounded down, and brought to the numbers from 0 to last: by std's cast, where `cut` has no
-// shorter way.
+// x rounded down, and brought to the numbers from 0 to last, by std's cast. `cut` uses it if it has
+// no shorter way.
 fn cut_cast(x: f32, last: u32) -> u32
     ensures { λ r. ⌜ r ≡ cutOf x last ⌝ }
 {
@@ -24,7 +24,7 @@ fn cut_cast(x: f32, last: u32) -> u32
     0
 }
 
-// The same, of the bit pattern of a number from 1.0 to before 2^24.
+// The same, for the bit pattern of a number from 1.0 to before 2^24.
 fn cut_bits(b: u32, last: u32) -> u32
     requires { ⌜ (0x3f80_0000 ≤ b) × (b < 0x4b80_0000) ⌝ }
     ensures { λ r. ⌜ r ≡ cutOf (ofBits binary32 b) last ⌝ }
@@ -36,7 +36,7 @@ fn cut_bits(b: u32, last: u32) -> u32
     last
 }
 
-// The same, of any x.
+// The same, for any x.
 pub fn cut(x: f32, last: u32) -> u32
     ensures { λ r. ⌜ r ≡ cutOf x last ⌝ }
 {
@@ -53,8 +53,8 @@ pub fn cut(x: f32, last: u32) -> u32
     0
 }
 
-// x rounded up, and brought to the numbers from 0 to last: one more than x rounded down, where that
-// is below x.
+// x rounded up, and brought to the numbers from 0 to last: one more than x rounded down, if that is
+// below x.
 pub fn cut_up(x: f32, last: u32) -> u32
     ensures { λ r. ⌜ r ≡ cutUpOf x last ⌝ }
 {
@@ -70,7 +70,7 @@ pub fn cut_up(x: f32, last: u32) -> u32
     0
 }
 
-// v brought to the numbers from 0.5 to 255.0, among which each byte has one that is cut to it.
+// v brought to the numbers from 0.5 to 255.0, which does not change the byte that it is cut to.
 fn near_byte(v: f32) -> f32
     ensures { λ r. ⌜ T (le (ofBits binary32 0x3f00_0000) r) × T (le r (ofBits binary32 0x437f_0000)) × (cutOf r 255 ≡ cutOf v 255) ⌝ }
 {

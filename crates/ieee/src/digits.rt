@@ -43,8 +43,8 @@ fn near_root(a: u64) -> u64
     r
 }
 
-// The root of d * 2^k units of 2^-149, as a bit pattern. d is moved up to 24 digits, and by one
-// more where that makes the power of two that is left a square's.
+// The root of d * 2^k units of 2^-149, as a bit pattern. d is moved up to 47 or 48 digits, so that
+// the power of two that is left is a square.
 fn root_of(d: u32, k: u32) -> u32
     requires { ⌜ (0 < d) × (d < 2 ^ 24) × (k < 254) ⌝ }
     ensures { λ r. ⌜ (r < 0x7f80_0000) × (ofBits binary32 r ≡ rootWholes (d * 2 ^ k)) ⌝ }

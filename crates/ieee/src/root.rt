@@ -7,10 +7,11 @@ ghost use lib.Ieee.{binary32, ofBits, isNan};
 ghost use Rattle.ieee.specs.Units.{wholes};
 ghost use Rattle.ieee.specs.Root.{root, rootWholes};
 
-// A guess at the pattern of the root of x, whose own pattern is b. y is nearly 1.42 / √x, by half the
-// exponent and one step of Newton's method: x * y * y is from 2.015 to 2.021, subnormals apart.
-// There the parabola is one over its root, to one part in 2^32. The last line rounds an f64 to 24
-// digits. Nothing is promised of the guess. It is wrong for about one x in 700, and for subnormals.
+// A guess at the pattern of the root of x, whose own pattern is b. y is nearly 1.42 / √x, by half
+// the exponent and one step of Newton's method: x * y * y is from 2.015 to 2.021, except for
+// subnormals. In that range the parabola is one over its root, to one part in 2^32. The last line
+// rounds an f64 to 24 digits. Nothing is promised of the guess. It is wrong for about one x in 700,
+// and for subnormals.
 fn guess(x: f32, b: u32) -> u32
     requires { ⌜ T (not (isNan x)) × (b < 0x7f80_0000) ⌝ }
 {
@@ -27,8 +28,8 @@ fn guess(x: f32, b: u32) -> u32
     }
 }
 
-// From the bit pattern of a number above 0 to its root's. p is a guess at the answer, which is the
-// answer where its digits c are the whole number nearest to the root of a.
+// From the bit pattern of a number above 0 to its root's. p is a guess. It is the answer if its
+// digits c are the whole number nearest to the root of a.
 fn root_bits(b: u32, p: u32) -> u32
     requires { ⌜ (0 < b) × (b < 0x7f80_0000) ⌝ }
     ensures { λ r. ⌜ (r < 0x7f80_0000) × (ofBits binary32 r ≡ rootWholes (wholes (ofBits binary32 b))) ⌝ }

@@ -1,5 +1,5 @@
-// The leaves and the four operations for C, so that a test can run them on any pattern: each export calls one leaf or
-// has one operation.
+// The leaves and the four operations for C, so that a test can run them on any pattern: each export
+// calls one leaf or has one operation.
 ghost use mathlib.Core.Path.{_≡_};
 ghost use Prim.Native.Nat.{_^_, _≤_, _<_};
 ghost use lib.Ieee.{binary32, ofBits, toBits, add, sub, mul, div};

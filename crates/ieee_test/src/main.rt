@@ -1,5 +1,6 @@
-// Runs each leaf of `ieee` on the patterns of standard input, little-endian words, and prints a line
-// for it: its name, and the digest of its answers. oracle/floats.py wrote the input and the lines.
+// Runs each leaf of `ieee` on the patterns of standard input, little-endian words, and prints a
+// line for it: its name, and the digest of its answers. oracle/floats.py wrote the input and the
+// lines.
 use libc::STDIN_FILENO;
 use libc::STDOUT_FILENO;
 ghost use Prim.Native.Nat.{_+_, _*_, _≤_};

@@ -32,12 +32,12 @@ use Rattle.decide.specs.Verdicts.{heldOf, texturedBy, checkedVerdict, texturedV
 use Rattle.decide.proofs.Decided.{lit-is}
 use Rattle.judge.specs.Judge.{isAt, heldIn, slotOr, namedVerdict, slotBy, modelVerdict}
 
--- ---- what a store tells of a number, by the slot that is found
+-- ---- what a store has under a number, by the slot that is found
 module _ (k : Kind) (slots : List Slot) (store : List ℕ) (n : ℕ) where
   pub look-some : (slot : Slot) → slotFor n slots ≡ At slot → lookIn k slots store n ≡ some (uploadAt k slot store)
   look-some slot e = rw e
 
-  -- whether one is held, the slots tell
+  -- the slots decide whether one is held
   pub look-held : isSome (lookIn k slots store n) ≡ heldIn slots n
   look-held = go (slotFor n slots)
     where
@@ -54,7 +54,7 @@ module _ (k : Kind) (slots : List Slot) (store : List ℕ) (n : ℕ) where
   pub part-long : (start size area : ℕ) → size ≡ area → start + area ≤ length store → length (take (start + size - start) (drop start store)) ≡ area
   part-long start size area e h = rw (part-is start size area e) (length-take-le area (drop start store) (omega (arith, length-drop start store)))
 
-  -- where they stand
+  -- where they are
   module _ (long : length slots ≡ 64) (ok : slotsOk k (length store) 0 slots ≡ true) (slot : Slot) (found : slotFor n slots ≡ At slot) where
     pub sides-at : sidesOk k (slot .width) (slot .height) ≡ true
     sides-at = spot k slots store n long ok slot found .sides
@@ -85,7 +85,7 @@ module _ (p : List ℕ) (slots : List Slot) where
     unfolding namedVerdict slotBy
     some-held h f = (rw (← e, h, f), rw (← e, h, f))
 
-  -- and back: where both find nothing, the slot that is handed on is the one that is held
+  -- and back: if both find nothing, the slot that is handed on is the one that is held
   module _ {named : Verdict} (e : named ≡ namedVerdict p slots) where
     pub mode-done : named ≡ Done → atMost p 1 2 ≡ Done
     unfolding namedVerdict

@@ -15,7 +15,7 @@ use Rattle.verdict.specs.declared.Verdict.the-variants.{Refused}
 use Rattle.payload.specs.Words.{andThen, whenDone, wordAt, atMost}
 use Rattle.decide.specs.Verdicts.{heldOf, recordsVerdict}
 
--- ---- is a number held? The slots alone tell
+-- ---- is a number held? The slots alone decide
 abbrev pub isAt : Found → Bool
 isAt (At slot) = true
 isAt Nothing = false
@@ -27,7 +27,7 @@ heldIn slots n = isAt (slotFor n slots)
 unfoldable pub namedVerdict : List ℕ → List Slot → Verdict
 namedVerdict p slots = andThen (atMost p 1 2) (heldOf (heldIn slots (wordAt p 0)))
 
--- what is handed on: the slot under the number, and an unused one if there is none, or if the mode is refused, so that nobody looks
+-- what is handed on: the slot under the number. If there is none, or if the mode is refused, it is an unused one that nobody reads
 abbrev pub slotOr : Found → Slot
 slotOr (At slot) = slot
 slotOr Nothing = noSlot

@@ -107,7 +107,7 @@ pub fn textured(p: &[u32], has_normal: bool, m: &[f32; 48], slots: [Slot; SLOTS]
     with_slot(checked, slot)
 }
 
-// A triangle of a model, which is 19's, with the matrix for normals in hand.
+// A triangle of a model, which is judged as a 19, with the matrix for normals handed in.
 pub fn model_triangle(p: &[u32], m: &[f32; 48], inverse: Inverse, slots: [Slot; SLOTS]) -> Judged
     requires { ⌜ length (now p) ≡ 29 ⌝ }
     requires { ⌜ inverse ≡ normalMatrixOf (now m) true ⌝ }

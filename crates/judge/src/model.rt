@@ -32,7 +32,7 @@ pub fn triangle_of(words: &[u32], start: usize, mode: u32) -> [u32; 29]
     triangle
 }
 
-// The same checks as of a record that is drawn: no corner is needed for them.
+// The same checks as for a record that is drawn. No corner is needed for them.
 fn record_verdict(p: &[u32], inverse: Inverse, slots: [Slot; SLOTS]) -> Verdict
     requires { ⌜ length (now p) ≡ 29 ⌝ }
     ensures { λ r. ⌜ r ≡ andThen (namedVerdict (now (p .entry)) slots) (texturedBy (now (p .entry)) true inverse []) ⌝ }

@@ -14,6 +14,6 @@ low q m h = omega arith
 small : (x y : ℕ) → max (x % 2) (y % 2) < 2
 small x y = omega arith
 
--- each bit of the result is set where it was set or the mask has it
+-- each bit of the result is set if it was set or the mask has it
 pub bit-or : (k a b : ℕ) → bit k (bitOr a b) ≡ max (bit k a) (bit k b)
 bit-or k a b = ap (λ (n : ℕ). n % 2) (or-shr a b k ∙ or-step (a / 2 ^ k) (b / 2 ^ k)) ∙ low _ _ (small (a / 2 ^ k) (b / 2 ^ k))

@@ -50,7 +50,7 @@ module _ {A : Type 0} where
   unfolding mapAt
   getD-mapAt f xs k d h = getD-from f 0 xs k d h ∙ ap (λ (m : ℕ). f m (getD xs k d)) (zero-add k)
 
-  -- a list is a pass over another where each element is
+  -- a list is a pass over another if each element is
   pub is-map : (d : A) (f : ℕ → A → A) (ys xs : List A) → length ys ≡ length xs
       → ((k : ℕ) → k < length xs → getD ys k d ≡ f k (getD xs k d)) → ys ≡ mapAt f xs
   is-map d f ys xs e h =

@@ -1,5 +1,5 @@
 -- Equations of polynomials over ℤ, proved by computing: `ring n ρ l r tt` proves that the two expressions l and r, over the n numbers of ρ, are equal.
--- A polynomial in n variables is a list of polynomials in the variables after the first, by rising powers of the first. l and r are equal where each number in l - r is 0.
+-- A polynomial in n variables is a list of polynomials in the variables after the first, by rising powers of the first. l and r are equal if each number in l - r is 0.
 -- Assumes nothing.
 use mathlib.Core.Path.{_≡_, refl, sym, ap, _∙_}
 use mathlib.Core.Bool.{Bool, true, false, _&&_}

@@ -1,1 +1,1 @@
-// Laws that the proofs of every floor cite: it has no code.
+// Laws that the proofs of every floor cite. This crate has no code.

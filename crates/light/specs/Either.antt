@@ -1,4 +1,4 @@
--- Shading in which each `max(0.0)` may answer either zero if both numbers are zeros, as Rust's documentation lets it at each call: the original's `shade_vertex`. proofs/Either.antt shows that one outcome is left. Definitions only.
+-- Shading in which each `max(0.0)` may answer either zero if both numbers are zeros, as Rust's documentation allows at each call: the original's `shade_vertex`. proofs/Either.antt shows that one outcome is left. Definitions only.
 use mathlib.Core.Path.{_≡_}
 use mathlib.Core.Bool.{true, false, cond}
 use mathlib.Core.List.{List, [], _∷_}
@@ -10,7 +10,7 @@ use Rattle.vector.specs.Sums.{minusZero}
 use Rattle.light.specs.Light.{none, viewOf, toLightOf, halfOf, withTerms, withAlpha}
 use Rattle.light.specs.declared.Light.{Light}
 
--- r may be what `x.max(0.0)` answers: `maxOf x`, and if x is a zero -0.0 too
+-- r may be what `x.max(0.0)` answers: `maxOf x`, or -0.0 if x is a zero
 pub data Max0 (x : Float) : Float → Type 0 where
   ours : Max0 x (maxOf x)
   minus : eq x zero32 ≡ true → Max0 x minusZero

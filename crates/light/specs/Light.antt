@@ -30,7 +30,7 @@ facing n d = maxOf (dotOf n d)
 abbrev pub halfOf : List Float → List Float → List Float
 halfOf l v = normalOf (at l 0 ⊕ at v 0 ∷ at l 1 ⊕ at v 1 ∷ at l 2 ⊕ at v 2 ∷ [])
 
--- the source's `specular`: the sixteenth power, where the surface faces the light
+-- the source's `specular`: the sixteenth power if the surface faces the light, else 0
 unfoldable pub shineOf : List Float → List Float → List Float → Float → Float
 shineOf n l v ndotl = cond (lt zero32 ndotl) (power16 (facing n (halfOf l v))) zero32
 
@@ -43,7 +43,7 @@ abbrev pub withTerms : List Float → List Float → Light → Float → Float �
 withTerms rgb albedo l ndotl shine =
     at rgb 0 ⊕ termOf albedo l 0 ndotl shine ∷ at rgb 1 ⊕ termOf albedo l 1 ndotl shine ∷ at rgb 2 ⊕ termOf albedo l 2 ndotl shine ∷ []
 
--- a light whose direction is known
+-- a light is added, with the direction to it given
 unfoldable pub addedToward : List Float → List Float → List Float → List Float → Light → List Float → List Float
 addedToward toward albedo n v l rgb = withTerms rgb albedo l (facing n toward) (shineOf n toward v (facing n toward))
 
@@ -62,7 +62,7 @@ withAlpha rgb a = at rgb 0 ∷ at rgb 1 ∷ at rgb 2 ∷ a ∷ []
 unfoldable pub shadeOf : List Float → List Float → List Float → List Light → List Float
 shadeOf albedo p n lights = withAlpha (litOf albedo p n (viewOf p) lights none) (at albedo 3)
 
--- .. of three corners; corner k has the k-th of each list
+-- .. for three corners; corner k has the k-th of each list
 abbrev pub rowOf : List (List Float) → ℕ → List Float
 rowOf rows k = getD rows k []
 

@@ -18,7 +18,7 @@ withColor v c = record { position = v .position; «view_position» = v .«view_p
 abbrev pub shadedBy : List Light → ClipVertex → List Float → List Float
 shadedBy lights v normal = shadeOf (v .color) (v .«view_position») normal lights
 
--- ---- 16: with shading 0 one colour, the normalised sum of the vertex normals at vertex 0's position; else each vertex by its own normal
+-- ---- 16: with shading 0 all three get the colour of vertex 0, lit by the normalised sum of the vertex normals; else each vertex is lit by its own normal
 abbrev pub sumOf : List ClipVertex → ℕ → Float
 sumOf tri axis = at (corner tri 0 .normal) axis ⊕ at (corner tri 1 .normal) axis ⊕ at (corner tri 2 .normal) axis
 
@@ -43,7 +43,7 @@ transformedLit on shading lights normal tri =
     tri
 
 -- ---- 18 and 19: mode 0 is not lit, mode 1 lights vertex 0 by the face's normal, mode 2 each vertex: 18 by the face's normal, 19 by its own
--- `edge_a`: from vertex 0 to vertex 1, and `edge_b`
+-- `edge_a`, from vertex 0 to vertex 1, and `edge_b`, from vertex 0 to vertex 2
 abbrev pub edgeOf : ClipVertex → ClipVertex → List Float
 edgeOf a b =
     at (b .«view_position») 0 ⊖ at (a .«view_position») 0
@@ -60,7 +60,7 @@ faceNormal tri = crossOf (edgeOf (corner tri 0) (corner tri 1)) (edgeOf (corner 
 abbrev pub faceLit : List Light → List Float → ClipVertex → ClipVertex
 faceLit lights normal v = withColor v (shadedBy lights v normal)
 
--- each by the normal given for it
+-- each vertex is lit by the normal given for it
 abbrev pub litEach : List Light → List (List Float) → List ClipVertex → List ClipVertex
 litEach lights normals tri =
     faceLit lights (rowOf normals 0) (corner tri 0)

@@ -150,7 +150,7 @@ fn face_lit_each(tri: [ClipVertex; 3], normal: [f32; 3], lights: [Light; 8]) -> 
     lit_each(tri, [normal, normal, normal], lights)
 }
 
-// 18 and 19. Mode 0 is not lit, and of mode 1 vertex 0 alone.
+// 18 and 19. Mode 0 is not lit, and in mode 1 only vertex 0 is.
 pub fn textured_lit(
     tri: [ClipVertex; 3],
     has_normal: bool,

@@ -1,4 +1,4 @@
--- The comparisons (IEEE 754-2019, 5.11): of two finite numbers they are those of whole numbers, over one denominator. So -0 equals +0. A NaN is not ordered, and infinities are at the ends.
+-- The comparisons (IEEE 754-2019, 5.11): for two finite numbers they are those of whole numbers, over one denominator. So -0 equals +0. A NaN is not ordered, and infinities are at the ends.
 -- Assumes nothing.
 use mathlib.Core.Path.{_≡_, refl, sym, ap, _∙_}
 use mathlib.Core.Bool.{Bool, true, false, not, _&&_, _||_, Bool·beq}

@@ -1,4 +1,4 @@
--- The operations where a NaN, an infinity or a division by zero takes part (IEEE 754-2019, 6.1, 6.2, 7.2 and 7.3), case by case. Assumes nothing.
+-- The operations when a NaN, an infinity or a division by zero takes part (IEEE 754-2019, 6.1, 6.2, 7.2 and 7.3), case by case. Assumes nothing.
 use mathlib.Core.Path.{_≡_, refl}
 use mathlib.Core.Bool.{Bool, true, false, not}
 use Prim.Native.Nat.{ℕ}

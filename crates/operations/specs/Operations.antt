@@ -12,7 +12,7 @@ signed s n = cond s (negℤ (pos n)) (pos n)
 abbrev pub numer : Bool → ℕ → ℤ → ℤ
 numer s m e = signed s (m * up e)
 
--- two values over the product of their denominators: that of numer s m e, with the other's exponent d
+-- two values over the product of their denominators: this is the first one's numerator, and d is the other's exponent
 abbrev pub over : Bool → ℕ → ℤ → ℤ → ℤ
 over s m e d = numer s m e *ℤ pos (down d)
 

@@ -5,7 +5,7 @@ use lib.Dec.{eqb}
 use lib.IntN.{ℤ, pos, negsuc}
 use lib.Ieee.{Float, nan, inf, fin}
 
--- x is no NaN, and it is negative if s is true: so is -0
+-- x is no NaN, and its sign is s: true is negative, as in -0
 abbrev pub SignIs : Float → Bool → Type 0
 SignIs nan s = ⊥
 SignIs (inf t) s = t ≡ s

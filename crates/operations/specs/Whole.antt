@@ -1,4 +1,4 @@
--- A size in units of 2 ^ -149, and the whole numbers beside it. Definitions only.
+-- A size in units of 2 ^ -149, and the whole numbers next to it. Definitions only.
 use Prim.Native.Nat.{ℕ, _+_, _*_, _^_, _≤_, _<_}
 
 -- n units rounded down are z: z ≤ n * 2 ^ -149 < z + 1

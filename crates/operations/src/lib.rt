@@ -1,1 +1,1 @@
-// What the float operations, comparisons and conversions mean, as theorems: it has no code.
+// What the float operations, comparisons and conversions mean, as theorems. This crate has no code.

@@ -32,7 +32,7 @@ pub fn at_most(p: &[u32], i: usize, most: u32) -> Verdict
     }
 }
 
-// The n words from `start` on: the first that is no finite float, if one is none.
+// The first of the n words from `start` on that is no finite float, if there is one.
 pub fn finite_from(p: &[u32], start: usize, n: usize) -> Verdict
     requires { ⌜ start + n ≤ length (now p) ⌝ }
     requires { ⌜ length (now p) ≤ 4294967295 ⌝ }

@@ -17,12 +17,12 @@ module _ (u v b : Corners) where
   abbrev one : Sampler
   one = record { width = 1; height = 1; u = u; v = v }
 
-  -- each pixel has texel 0, also where u and v are far outside 0..1, infinite or NaN
+  -- each pixel has texel 0, also if u and v are far outside 0..1, infinite or NaN
   pub place-one : placeOf one b ≡ 0
   unfolding placeOf
   place-one = omega (arith, cut-le (mixOf b v · ofInt binary32 (pos 1)) 0, cut-le (mixOf b u · ofInt binary32 (pos 1)) 0)
 
-  -- "word F0A51234: texel 255, 0, 170, 85"
+  -- rule 9.11
   pub case-11 : texelOf (0xf0a5_1234 ∷ []) one b ≡ record { r = 255; g = 0; b = 170; a = 85 }
   unfolding texelOf halfOf nibblesOf
   case-11 = rw place-one

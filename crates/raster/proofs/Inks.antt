@@ -1,4 +1,4 @@
--- The inks of both rasterisers have their texture, where they have one, in the words that are lent. Assumes nothing.
+-- The inks of both rasterisers have their texture, if they have one, in the words that are lent. Assumes nothing.
 use mathlib.Core.List.{List}
 use Prim.Native.Nat.{ℕ}
 use Rattle.clip.specs.declared.vertex.ClipVertex.{ClipVertex}

@@ -63,7 +63,7 @@ pub record Texture (width height n : ℕ) : Type 0 where
   pub top-height : height ≤ 1024
   pub in-words : (width * height + 1) / 2 ≤ n
 
--- `ty * width + tx`: the texel's number, of `uv`
+-- `ty * width + tx`: the number of the texel at `uv`
 unfoldable pub placeOf : Sampler → Corners → ℕ
 placeOf s b = casts.texelOf (mixOf b (s .v)) (s .height) * s .width + casts.texelOf (mixOf b (s .u)) (s .width)
 
@@ -97,13 +97,13 @@ tonedOf Plain t b = rgbaOf (plainOf t)
 tonedOf (Tinted c) t b = rgbaOf (tintedOf (plainOf t) c)
 tonedOf (Mixed c) t b = rgbaOf (tintedOf (plainOf t) (mixedOf c b))
 
--- ---- what an ink gives: where the denominator is at most 2^-23 in size, the depth is stored and the pixel is not (the first `cond`)
+-- ---- what an ink gives: if the denominator is at most 2^-23 in size, the depth is stored and the pixel is not (the `cond`)
 unfoldable pub shadeOf : List ℕ → Ink → Corners → Corners → Shade
 shadeOf texels (Flat c) b i = Of c
 shadeOf texels (Blend c) b i = cond (tinyOf (mixOf b i)) Blank (Of (rgbaOf (blendOf c b i (mixOf b i))))
 shadeOf texels (Textured s t) b i = Of (tonedOf t (texelOf texels s b) b)
 
--- an ink's texture, if it has one, is in these words
+-- an ink's texture, if it has one, fits into n words
 abbrev pub Stored : Ink → ℕ → Type 0
 Stored (Flat c) n = Unit
 Stored (Blend c) n = Unit

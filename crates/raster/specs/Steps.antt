@@ -1,4 +1,4 @@
--- What the steps of a draw are told, and what they leave. Definitions only.
+-- What the steps of a draw are given, and what they leave. Definitions only.
 use mathlib.Core.Path.{_≡_}
 use mathlib.Core.Bool.{true}
 use mathlib.Core.List.{List}

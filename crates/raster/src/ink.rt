@@ -24,7 +24,7 @@ pub struct Colors {
     pub a: Corners,
 }
 
-// A texture's sides, and where the corners stand in it.
+// A texture's sides, and where the corners are in it.
 pub struct Sampler {
     pub width: u32,
     pub height: u32,
@@ -109,7 +109,7 @@ fn place(s: Sampler, b: Corners, n: usize) -> usize
     ieee::cast::texel(v, s.height) * (s.width as usize) + ieee::cast::texel(u, s.width)
 }
 
-// Its sixteen bits.
+// The sixteen bits of texel n.
 fn half(texels: &[u32], width: u32, height: u32, n: usize) -> u32
     requires { ⌜ Texture width height (length (now texels)) ⌝ }
     requires { ⌜ n < width * height ⌝ }
@@ -175,7 +175,7 @@ fn mixed(c: Colors, b: Corners) -> Color
     }
 }
 
-// A texel in its tone: a nibble times 17 is itself after the way by floats.
+// A texel in its tone. A nibble times 17 is the same after the way through floats.
 fn toned(tone: Tone, t: Rgba, b: Corners) -> Rgba
     requires { ⌜ rgbaOf (plainOf t) ≡ t ⌝ }
     ensures { λ r. ⌜ r ≡ tonedOf tone t b ⌝ }
@@ -187,8 +187,8 @@ fn toned(tone: Tone, t: Rgba, b: Corners) -> Rgba
     }
 }
 
-// At the pixel whose `bary` is b, in a triangle whose `inv_w` is i. One place looks a texel up, so that
-// the compiler puts it into the loop.
+// What an ink gives at the pixel whose `bary` is b, in a triangle whose `inv_w` is i. One place
+// looks a texel up, so that the compiler puts it into the loop.
 pub fn shade_at(texels: &[u32], ink: Ink, b: Corners, i: Corners) -> Shade
     requires { ⌜ Stored ink (length (now texels)) ⌝ }
     ensures { λ r. ⌜ r ≡ shadeOf (now (texels .entry)) ink b i ⌝ }

@@ -31,7 +31,7 @@ fn put(plane: &mut [u8], x: usize, y: usize, shade: Shade)
     }
 }
 
-// A pixel that the triangle covers, by its edges there: it shows where its depth passes.
+// A pixel that the triangle covers, with its edges there: it is drawn if its depth passes.
 fn cover(
     plane: &mut [u8],
     depth: &mut [f32],
@@ -68,7 +68,7 @@ fn cover(
     }
 }
 
-// One pixel, where it is inside all three edges.
+// One pixel, if it is inside all three edges.
 fn draw_pixel(
     plane: &mut [u8],
     depth: &mut [f32],

@@ -7,11 +7,11 @@ ghost use lib.ListN.{length};
 
 // How the words are cut into calls.
 pub enum Cut {
-    // By the counts that stand before the words, with a line after each call.
+    // By the counts that are before the words, with a line after each call.
     Counted,
-    // In one call, with a line at the end, as with the next.
+    // In one call, with a line at the end.
     Whole,
-    // Word by word.
+    // Word by word, with a line at the end.
     Words,
 }
 
@@ -69,7 +69,7 @@ struct Span {
     end: usize,
 }
 
-// Of the call that begins at `at`.
+// The words of the call that begins at `at`.
 fn words_at(cut: Cut, tape: &[u32], at: usize) -> Span
     requires { ⌜ at < length (now tape) ⌝ }
     ensures { λ r. ⌜ (at < r .end) × (r .from ≤ r .end) × (r .end ≤ length (now (tape .entry))) ⌝ }

@@ -1,7 +1,8 @@
-// Replays the streams of the file that its first argument names, each three times from a reset: by
-// its calls, in one call, and word by word. After each call of the first run, and at the end of the
-// others, it prints the answer, the status, and digests of the plane and of both depths.
-// A stream is a name of 24 bytes, a count, and as many words: call after call a count and its words.
+// Replays the streams of the file that its first argument names, or of standard input, each three
+// times from a reset: by its calls, in one call, and word by word. After each call of the first
+// run, and at the end of the others, it prints the answer, the status, and digests of the plane and
+// of both depths.
+// A stream is a name of 24 bytes, a count, and as many words: for each call a count and its words.
 mod machine;
 mod tape;
 
@@ -14,7 +15,8 @@ const TAPE: usize = 110000;
 
 const STORE: usize = 400000;
 
-// One stream, if the file has another, three times; the counts on the tape go after the first.
+// One stream three times, if the file has another. The counts on the tape are dropped after the
+// first.
 fn stream(
     fd: i32,
     tape: &mut [u32],
@@ -63,8 +65,8 @@ fn stream(
     true
 }
 
-// A proved loop ends, and nothing says that a file does: the streams are counted down, to 0 at once
-// where the file has ended.
+// A proved loop has to end, and nothing says that a file does. So the streams are counted down, to
+// 0 at once if the file has ended.
 fn left(streams: u64, more: bool) -> u64
     requires { ⌜ 0 < streams ⌝ }
     ensures { λ r. ⌜ r < streams ⌝ }

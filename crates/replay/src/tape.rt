@@ -61,8 +61,8 @@ fn print_name(fd: i32) -> bool {
     true
 }
 
-// The next stream's words, counts and all, and its name printed: how many they are, 0 where the
-// file has ended or the stream is too long for the tape.
+// Reads the next stream's words, counts and all, and prints its name. Answers how many they are, or
+// 0 if the file has ended or the stream is too long for the tape.
 pub fn next(fd: i32, tape: &mut [u32]) -> usize
     ensures { λ r. ⌜ Counts r (now (tape .exit)) ⌝ }
 {
@@ -82,7 +82,7 @@ pub fn next(fd: i32, tape: &mut [u32]) -> usize
     n
 }
 
-// The first n words without the counts among them, moved to the front: how many they are.
+// Moves the first n words, without the counts among them, to the front. Answers how many they are.
 pub fn joined(tape: &mut [u32], n: usize) -> usize
     requires { ⌜ n ≤ length (now tape) ⌝ }
     ensures { λ r. ⌜ Counts r (now (tape .exit)) ⌝ }

@@ -41,7 +41,7 @@ module _ (f : Format) (num den : ℕ) (D : 0 < den) where
   scaled : (m : ℕ) → m * 2 ^ k * den ≡ m * u
   scaled m = mul-assoc m (2 ^ k) den ∙ ap (λ (x : ℕ). m * x) (mul-comm (2 ^ k) den)
 
-  -- if digits are dropped, p digits stand before them
+  -- if digits are dropped, p digits are before them
   reaches : 0 < k → 2 ^ (p - 1) * u ≤ n
   reaches g = le-trans (le-of-eq (sym (scaled (2 ^ (p - 1))))) (le-div-iff-mul-le D .0 (leading p (n / den) (positive f) g))
 

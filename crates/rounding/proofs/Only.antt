@@ -17,7 +17,7 @@ use Rattle.rounding.proofs.Gaps.{lost, top, top-is, next, above-held, a
 use Rattle.rounding.proofs.Rounding.{round-under}
 use Rattle.rounding.proofs.Fitting.{value-only}
 
--- ---- of two numbers as far from n, one that lies between them is nearer
+-- ---- a number between two that are as far from n is nearer than they are
 middle : (a b c n : ℕ) → a < b → b < c → apart a n ≡ apart c n → apart b n < apart a n
 middle a b c n h l e = omega arith
 

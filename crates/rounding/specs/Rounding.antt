@@ -1,4 +1,4 @@
--- Rounding to nearest, ties to even, as IEEE 754-2019 has it (3.3, 4.3.1), over whole numbers: of a fraction num / den, den above 0, to a multiple of a format's smallest value. Definitions only.
+-- Rounding to nearest, ties to even, as IEEE 754-2019 has it (3.3, 4.3.1), over whole numbers. A fraction num / den, den above 0, is rounded to a multiple of a format's smallest value. Definitions only.
 use Prim.Native.Nat.{ℕ, suc, _+_, _-_, _*_, _/_, _%_, _^_, _≤_, _<_}
 use mathlib.Core.Path.{_≡_}
 use lib.Ieee.{Format, prec, emax, low, size}
@@ -19,12 +19,12 @@ away f num den v = (v * den - num * 2 ^ low f) + (num * 2 ^ low f - v * den)
 abbrev pub lastDigit : Format → ℕ → ℕ
 lastDigit f v = v / 2 ^ (size v - prec f) % 2
 
--- rule 7.1; 4.3.1, roundTiesToEven: v units are a value of the format, none is nearer to num / den, and if another is as near v's last digit is even
+-- rule 7.1; 4.3.1, roundTiesToEven: v units are a value of the format, none is nearer to num / den, and if another is as near, v's last digit is even
 pub record Rounded (f : Format) (num den v : ℕ) : Type 0 where
   pub held : Held f v
   pub nearest : (w : ℕ) → Held f w → away f num den v ≤ away f num den w
   pub even : (w : ℕ) → Held f w → (w ≡ v → ⊥) → away f num den w ≡ away f num den v → lastDigit f v ≡ 0
 
--- 4.3.1: from here on in size it is an infinity. 2 ^ emax * (2 - 2 ^ -prec): of binary32 2 ^ 128 - 2 ^ 103
+-- 4.3.1: a size from here on becomes an infinity. It is 2 ^ emax * (2 - 2 ^ -prec), in binary32 2 ^ 128 - 2 ^ 103
 abbrev pub overflowsFrom : Format → ℕ
 overflowsFrom f = 2 ^ suc (emax f) - 2 ^ (emax f - prec f)

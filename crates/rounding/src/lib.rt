@@ -1,1 +1,2 @@
-// That the library rounds to the nearest value of a format, ties to even: it has no code.
+// Theorems that the library rounds to the nearest value of a format, ties to even. This crate has
+// no code.

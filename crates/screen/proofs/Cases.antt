@@ -25,14 +25,14 @@ filled-pixel c P x y whole h k =
 abbrev pub grey : Rgba
 grey = record { r = 128; g = 128; b = 128; a = 255 }
 
--- case 4: "Clear to 808080FF: (0,0) is 132,132,132,255; (3,0) is 123,123,123,255"
+-- rule 9.4
 pub case-4 : (P : List ℕ) → length P ≡ planeBytes
     → (pixelOf (mapAt (paint grey) P) 0 0 ≡ record { number = 0; bytes = 132 ∷ 132 ∷ 132 ∷ 255 ∷ [] })
     × (pixelOf (mapAt (paint grey) P) 3 0 ≡ record { number = 0; bytes = 123 ∷ 123 ∷ 123 ∷ 255 ∷ [] })
 unfolding shown levelOf ditherOf
 case-4 P whole = (filled-pixel grey P 0 0 whole (omega arith) (omega arith), filled-pixel grey P 3 0 whole (omega arith) (omega arith))
 
--- case 5: "Channel 1: 8 at (2,2), 0 at (2,0). Channel 254: 255 at (2,3), 247 at (0,3)"
+-- rule 9.5
 pub case-5 : (ditherOf 1 (thresholdAt 2 2) ≡ 8) × (ditherOf 1 (thresholdAt 2 0) ≡ 0) × (ditherOf 254 (thresholdAt 2 3) ≡ 255) × (ditherOf 254 (thresholdAt 0 3) ≡ 247)
 unfolding levelOf ditherOf
 case-5 = (refl, refl, refl, refl)

@@ -28,7 +28,7 @@ module _ (xs : List ℕ) (size start : ℕ) (some : 0 < size) (room : size ≤ s
           ap (λ (k : ℕ). getD xs (start - size + k) 0) (m ∙ ap (λ (k : ℕ). k % size) n)
           ∙ sym (rw e (getD-in (echo xs size start) start i xs (i - size) 0 (omega arith) (omega arith) (omega arith)))
 
--- a run that is painted, and then repeated, is painted on, where the colour shows alike `size` bytes on
+-- a run that is painted, and then repeated, is painted on, if the colour shows alike `size` bytes on
 pub echo-painted : (c : Rgba) (size lo start end : ℕ) (xs ys zs : List ℕ) → 0 < size → lo + size ≤ start → start ≤ end → end ≤ length xs
     → ((k : ℕ) → start + k < end → shown c (start - size + k % size) ≡ shown c (start + k))
     → ys ≡ mapRange (paint c) lo start xs → zs ≡ mapRange (echo ys size start) start end ys → zs ≡ mapRange (paint c) lo end xs

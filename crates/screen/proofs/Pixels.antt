@@ -1,4 +1,4 @@
--- Reading a pixel, case by case: what `pixelOf` is where the length is wrong, the pixel is off the screen, and on it. Assumes nothing.
+-- Reading a pixel, case by case: what `pixelOf` is if the length is wrong, if the pixel is off the screen, and if it is on it. Assumes nothing.
 use Prim.Native.Nat.{ℕ, _+_, _*_, _<_, _≤_}
 use mathlib.Core.Path.{_≡_}
 use mathlib.Core.Bool.{and-false}

@@ -1,4 +1,4 @@
--- Where a pixel's bytes stand. Assumes nothing.
+-- Where a pixel's bytes are. Assumes nothing.
 use mathlib.Core.Path.{_≡_}
 use Prim.Native.Nat.{ℕ, _+_, _*_, _/_, _%_, _<_}
 use native.Mathlib.Omega.{arith}

@@ -1,5 +1,5 @@
 -- Drawing over two lent buffers: depths, one to a pixel, and the plane, four bytes to a pixel. Each pixel is visited at most once.
---     near k old    does the drawing show at the pixel k, whose depth is old? A pixel that is not covered is near to nothing
+--     near k old    does the drawing show at the pixel k, whose depth is old? If k is not covered, it does not
 --     new k         the depth that it then leaves
 --     ink j old     what it then leaves in the byte j of the plane
 -- The depths are of any type: z is what `getD` gives past their end. Assumes nothing.
@@ -10,7 +10,7 @@ use Prim.Native.Nat.{ℕ, _*_, _/_}
 use lib.ListN.{getD}
 use Rattle.laws.specs.Cells.{mapRange}
 
--- rule 1.2, and so many numbers of each depth are lent
+-- rule 1.2: how many pixels there are. As many numbers of each depth are lent
 abbrev pub pixels : ℕ
 pixels = 76800
 
@@ -18,7 +18,7 @@ pixels = 76800
 unfoldable pub depthStep : {Z : Type 0} → (ℕ → Z → Bool) → (ℕ → Z) → ℕ → Z → Z
 depthStep near new k old = cond (near k old) (new k) old
 
--- a byte of the plane afterwards, over the depths D that the drawing finds
+-- a byte of the plane afterwards, if the drawing finds the depths D
 unfoldable pub byteStep : {Z : Type 0} → Z → (ℕ → Z → Bool) → (ℕ → ℕ → ℕ) → List Z → ℕ → ℕ → ℕ
 byteStep z near ink D j old = cond (near (j / 4) (getD D (j / 4) z)) (ink j old) old
 

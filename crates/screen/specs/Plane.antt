@@ -1,4 +1,4 @@
--- The plane: byte j belongs to the pixel j / 4, which stands at (j / 4 mod 320, j / 4 / 320), and is its channel j mod 4.
+-- The plane: byte j belongs to the pixel j / 4, which is at (j / 4 mod 320, j / 4 / 320), and is its channel j mod 4.
 -- Rules 1.1, 1.6 and 1.7; `write_pixel` and `pixel` of the original. Assumes nothing.
 use Prim.Native.Nat.{ℕ, zero, suc, _+_, _-_, _*_, _/_, _%_}
 use mathlib.Core.Bool.{cond, _&&_}
@@ -59,7 +59,7 @@ fourFrom plane j = getD plane j 0 ∷ getD plane (j + 1) 0 ∷ getD plane (j + 2
 abbrev pub colourAt : List ℕ → ℕ → ℕ → List ℕ
 colourAt plane x y = cond (ltb x width && ltb y height) (fourFrom plane ((y * width + x) * 4)) nothing
 
--- 1: the length is wrong, with four zeros
+-- if the length is wrong, the answer is 1 with four zeros
 unfoldable pub pixelOf : List ℕ → ℕ → ℕ → Answered
 pixelOf plane x y =
     cond (eqb (length plane) planeBytes) (record { number = 0; bytes = colourAt plane x y }) (record { number = 1; bytes = nothing })

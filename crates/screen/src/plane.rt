@@ -57,8 +57,8 @@ pub fn pixel(plane: &[u8], x: usize, y: usize) -> Read
     })
 }
 
-// Red, green and blue are dithered, alpha is not. Where the original leaves a pixel off the screen
-// alone, a caller shows that the pixel is on it.
+// Red, green and blue are dithered, alpha is not. The original leaves a pixel off the screen alone.
+// Here a caller shows that the pixel is on it.
 pub fn write_pixel(plane: &mut [u8], x: usize, y: usize, rgba: Rgba)
     requires { ⌜ length (now plane) ≡ planeBytes ⌝ }
     requires { ⌜ x < width ⌝ }
@@ -88,7 +88,7 @@ fn repeat_before(plane: &mut [u8], size: usize, start: usize, end: usize)
     }
 }
 
-// One row: the pattern comes back every four pixels.
+// One row: the pattern repeats every four pixels.
 fn fill_row(plane: &mut [u8], y: usize, rgba: Rgba)
     requires { ⌜ length (now plane) ≡ planeBytes ⌝ }
     requires { ⌜ y < height ⌝ }
@@ -102,7 +102,7 @@ fn fill_row(plane: &mut [u8], y: usize, rgba: Rgba)
     repeat_before(plane, 16, row + 16, row + ROW_BYTES);
 }
 
-// Every pixel: the rows come back every four. The sixteen pixels of one tile are worked out, and
+// Every pixel: the rows repeat every four. The sixteen pixels of one tile are worked out, and
 // the rest is copied.
 pub fn fill(plane: &mut [u8], rgba: Rgba)
     requires { ⌜ length (now plane) ≡ planeBytes ⌝ }

@@ -82,7 +82,7 @@ module _ (s : Settings) where
       })
 
 -- ---- the commands
--- what holds of the settings before a command, and of the new ones where it is done, holds after it
+-- what holds of the settings before a command, and of the new ones if it is done, holds after it
 changed-keeps : (P : Settings → Type 0) (v : Verdict) (new old : Settings) → P old → (v ≡ Done → P new) → P (changed v new old .settings)
 changed-keeps P Done new old a b = b refl
 changed-keeps P (Refused reason index) new old a b = a

@@ -1,4 +1,4 @@
--- What the clauses of rule 1.10 about lights are said of, one by one. Definitions only.
+-- The parts of a light that rule 1.10 is about, one by one. Definitions only.
 use mathlib.Core.List.{List}
 use lib.Ieee.{Float}
 use Rattle.light.specs.declared.Light.{Light}

@@ -1,6 +1,6 @@
-// Feeds the words of standard input to the machine, each four bytes with the lowest first, and writes
-// the plane to standard output as a PNG. What was refused is said on standard error, and the picture
-// is written all the same.
+// Feeds the words of standard input to the machine, each four bytes with the lowest first, and
+// writes the plane to standard output as a PNG. What was refused is said on standard error, and the
+// picture is written all the same.
 mod picture;
 mod refusal;
 
@@ -50,8 +50,8 @@ fn turn(
     }
 }
 
-// A proved loop ends, and nothing says that an input does: the turns are counted down, to 0 at once
-// where it has ended.
+// A proved loop has to end, and nothing says that an input does. So the turns are counted down, to
+// 0 at once if it has ended.
 fn next(turns: u64, more: bool) -> u64
     requires { ⌜ 0 < turns ⌝ }
     ensures { λ r. ⌜ r < turns ⌝ }

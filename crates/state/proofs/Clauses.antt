@@ -67,7 +67,7 @@ module _ (s : State) (t m : ℕ) where
 
 -- ---- the settings
 module _ (s : State) (t m : ℕ) where
-  -- "matrices and lights finite"
+  -- rule 1.10: matrices and lights are finite
   pub matrix-not : (i : ℕ) (d : Float) → i < length (s .settings .matrices) → finite (getD (s .settings .matrices) i d) ≡ false → wellFormed s t m ≡ false
   matrix-not i d h e = settings-not s t m (matrix-not-finite (s .settings) i d h e)
 
@@ -75,7 +75,7 @@ module _ (s : State) (t m : ℕ) where
       → finite (getD (term x (getD (s .settings .lights) k dark)) i d) ≡ false → wellFormed s t m ≡ false
   light-not k dark x i d h j e = settings-not s t m (light-not-finite (s .settings) k dark x i d h j e)
 
-  -- "shading mode ≤ 1"
+  -- rule 1.10: the shading mode is at most 1
   pub mode-not : 1 < s .settings .«shading_mode» → wellFormed s t m ≡ false
   mode-not h = settings-not s t m (mode-not-small (s .settings) h)
 
@@ -114,7 +114,7 @@ module _ (s : State) (t m : ℕ) (k : Kind) where
   unused-not i f b h n = slots-not k (slot-not-zero k (wordsIn k t m) l i b h (not-zero f (getD l i noSlot) n))
 
 module _ (s : State) (t m i : ℕ) where
-  -- "texture sides 1..1024"
+  -- rule 1.12: the sides of a texture
   module _ (d : Side) (here : i < length (s .textures)) (h : getD (s .textures) i noSlot .held ≡ true) where
     abbrev x : Slot
     x = getD (s .textures) i noSlot
@@ -125,7 +125,7 @@ module _ (s : State) (t m i : ℕ) where
     pub side-large-not : 1024 < side d x → wellFormed s t m ≡ false
     side-large-not e = textures-not s t m (sides-wrong Texture t (s .textures) i here h (texture-large d x e))
 
-  -- "model counts 1..18,724", and no height
+  -- rule 1.12: the count of a model, and no height
   module _ (here : i < length (s .models)) (h : getD (s .models) i noSlot .held ≡ true) where
     abbrev y : Slot
     y = getD (s .models) i noSlot

@@ -94,7 +94,7 @@ module _ (k : Kind) (size : ℕ) where
   gap-wrong (x ∷ xs) (suc i) (suc j) at a b h e =
       by-first at x xs (λ z. gap-wrong xs i j (at + areaOf k (x .width) (x .height)) (omega arith) (omega arith) h e) (λ z. unused-held xs j (omega arith) e)
 
-  -- one number at i and at j: the search for it ends before j just where there is a gap
+  -- one number at i and at j: the search for it ends before j only if there is a gap
   ends-early : (n : ℕ) (l : List Slot) (j at : ℕ) → j < length l → getD l j noSlot .held ≡ true → getD l j noSlot .number ≡ n → fresh n l ≡ true → slotsOk k size at l ≡ false
   ends-early n [] j at b e d f = absurd (omega arith)
   ends-early n (x ∷ xs) zero at b e d f = absurd (true≢false (sym f ∙ fresh-not (x ∷ xs) 0 (omega arith) n e d))

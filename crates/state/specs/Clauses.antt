@@ -1,4 +1,4 @@
--- What the clauses of rule 1.12 are said of, one by one. Definitions only.
+-- The parts of a slot that rule 1.12 is about, one by one. Definitions only.
 use Prim.Native.Nat.{ℕ}
 use Rattle.store.specs.declared.Slot.{Slot}
 

@@ -11,8 +11,8 @@ ghost use Rattle.state.specs.State.{fresh, begunOk, wellFormed};
 // The most payload words that a command may have: as many as the command area.
 pub const MAX_COMMAND_WORDS: u32 = 524291;
 
-// What the words so far have set, sent and begun. `gathered` words of the begun command stand in
-// the command area, and `wanted` are missing.
+// What the words so far have set, sent and begun. `gathered` words of the begun command are in the
+// command area, and `wanted` are missing.
 pub struct State {
     pub settings: Settings,
     pub textures: [Slot; SLOTS],

@@ -26,7 +26,7 @@ answer u s = room (length (s .words)) (told Texture (s .slots)) (u .number) (len
 put : Whole → Shelf → Shelf
 put u s = record { slots = slotsAfter (card u) (told Texture (s .slots)); words = wordsAfter (u .number) (u .words) (view Texture (s .slots) (s .words)) (s .words) }
 
--- ---- "Store of 4 words, two 2 × 2 textures, the first sent again: status 64. Store of 6: accepted, now last."
+-- ---- rule 9.12
 first : Whole
 first = wholeOf 1 2 2 (11 ∷ 12 ∷ [])
 
@@ -55,7 +55,7 @@ case-12-last : (put again (both 6) .words ≡ 21 ∷ 22 ∷ 31 ∷ 32 ∷ 0 ∷ 
 unfolding both put empty first second again
 case-12-last = (refl, refl)
 
--- ---- "A slot chosen by some bits of the number: 1 and 80000001 are different textures"
+-- ---- rule 8.3: a slot is not chosen by some bits of the number, 1 and 80000001 are different
 far : Whole
 far = wholeOf 0x80000001 2 2 (41 ∷ 42 ∷ [])
 

@@ -1,4 +1,4 @@
--- A well-formed store holds a list of uploads: `Rep`. Its slots and words tell that list, an accepted upload keeps it so, and it is well formed. Assumes nothing.
+-- A well-formed store holds a list of uploads: `Rep`. Its slots and words contain that list, an accepted upload keeps it so, and it is well formed. Assumes nothing.
 use Prim.Native.Nat.{ℕ, zero, suc, _+_, _-_, _≤_, max}
 use mathlib.Core.Path.{_≡_, refl, sym, ap, _∙_}
 use mathlib.Core.Bool.{Bool, true, false, cond, not, _&&_, true≢false, false≢true}
@@ -31,7 +31,7 @@ pub record Formed (k : Kind) (size : ℕ) (slots : List Slot) (cs : List Card) :
   pub few : length cs ≤ 64
   pub fits : total cs ≤ size
 
--- such slots tell these cards
+-- such slots contain these cards
 told-none : (k : Kind) (m : ℕ) → told k (replicate m noSlot) ≡ []
 told-none k zero = refl
 told-none k (suc m) = told-none k m
@@ -89,7 +89,7 @@ ok-place k size at m (c ∷ cs) a d h =
 pub formed-ok : {k : Kind} {size : ℕ} {slots : List Slot} {cs : List Card} → Formed k size slots cs → slotsOk k size 0 slots ≡ true
 formed-ok {k} {size} {cs = cs} f = rw (f .slots-are) (ok-place k size 0 (64 - length cs) cs (f .sized) (f .apart) (omega (arith, f .fits)))
 
--- ---- and the other way: well-formed slots are those of the cards that they tell
+-- ---- and the other way: well-formed slots are those of the cards that they contain
 is-noSlot : (s : Slot) → zeroSlot s ≡ true → s ≡ noSlot
 is-noSlot s h =
     let a : Bool = eqb (s .number) 0 in
@@ -176,7 +176,7 @@ pub record Rep (k : Kind) (slots : List Slot) (store : List ℕ) (us : List Whol
   pub formed : Formed k (length store) slots (cards us)
   pub words-are : store ≡ wordsOf us ++ drop (total (cards us)) store
 
--- what a held slot and those after it tell, where the words from a word on are known
+-- what a held slot and those after it contain, if the words from a word on are known
 view-none : (k : Kind) (m : ℕ) (store : List ℕ) → view k (replicate m noSlot) store ≡ []
 view-none k zero store = refl
 view-none k (suc m) store = view-none k m store
@@ -196,7 +196,7 @@ pub view-is : {k : Kind} {slots : List Slot} {store : List ℕ} {us : List Whole
 view-is {k} {store = store} {us} r =
     ap (λ (ss : List Slot). view k ss store) (r .formed .slots-are) ∙ view-place k us 0 (64 - length (cards us)) store (drop (total (cards us)) store) (r .formed .sized) (r .words-are)
 
--- the words of back-to-back areas are what is told of them
+-- the words of back-to-back areas are those of the uploads in them
 view-cards : (k : Kind) (cs : List Card) (at m : ℕ) (store : List ℕ) → All (Sized k) cs → at + total cs ≤ length store
     → cards (view k (place at cs ++ replicate m noSlot) store) ≡ cs
 view-cards k [] at m store a h = ap cards (view-none k m store)
@@ -215,7 +215,7 @@ view-words k (c ∷ cs) at m store a =
     let next : drop area (drop at store) ≡ drop (at + c .words) store = drop-drop area at store ∙ rw (a .0 .size) in
     sym (take-append-drop area (drop at store)) ∙ rw (sum, append-assoc) (ap (λ (l : List ℕ). take area (drop at store) ++ l) (next ∙ view-words k cs (at + c .words) m store (a .1)))
 
--- so a well-formed store holds what its slots and words tell
+-- so a well-formed store holds what its slots and words say
 module _ (k : Kind) (slots : List Slot) (store : List ℕ) (n : length slots ≡ 64) (ok : slotsOk k (length store) 0 slots ≡ true) where
   formed-at : Formed k (length store) slots (told k slots)
   formed-at = ok-formed k (length store) slots n ok

@@ -1,4 +1,4 @@
--- One store against the history of its kind: what its slots and words tell is what the history leaves, they answer alike, and an accepted upload is one more in the history. Assumes nothing.
+-- One store against the history of its kind: what its slots and words contain is what the history leaves, they answer alike, and an accepted upload is one more in the history. Assumes nothing.
 use Prim.Native.Nat.{ℕ}
 use mathlib.Core.Path.{_≡_, refl, ap, _∙_}
 use mathlib.Core.Bool.{true}
@@ -48,7 +48,7 @@ module _ {k : Kind} {size : ℕ} {slots : List Slot} {store : List ℕ} {h : Lis
   pub keeps-look : (n : ℕ) → looked k store (slotFor n slots) ≡ find n h
   keeps-look n = look-is k n slots store ∙ ap (find n) keeps-view ∙ find-live n h
 
-  -- "no room" over the slots is "no room" over the history
+  -- there is no room by the slots exactly if there is none by the history
   pub keeps-room : (u : Whole) → room (length store) (told k slots) (u .number) (length (u .words)) ≡ room size (cards (live h)) (u .number) (length (u .words))
   keeps-room u = rw (keeps-told, e .long)
 

@@ -24,7 +24,7 @@ eqb-sym-false : (a b : ℕ) → eqb a b ≡ false → eqb b a ≡ false
 eqb-sym-false a b e = ne-eqb b a λ p. eqb-false a b e (sym p)
 
 module _ {W : Type 0} where
-  -- no number stands twice
+  -- no number is there twice
   abbrev pub Apart : List (Upload W) → Type 0
   Apart [] = Unit {0}
   Apart (u ∷ us) = (holds (u .number) us ≡ false) × Apart us
@@ -34,7 +34,7 @@ module _ {W : Type 0} where
   All P [] = Unit {0}
   All P (u ∷ us) = P u × All P us
 
-  -- what stands under n once u is stored: u itself, or what stood there
+  -- what is under n once u is stored: u itself, or what was there
   pub find-stored : (n : ℕ) (u : Upload W) (us : List (Upload W)) → find n (stored u us) ≡ cond (eqb (u .number) n) (some u) (find n us)
   find-stored n u [] = refl
   find-stored n u (v ∷ us) = go (eqb (v .number) (u .number)) refl (find-stored n u us)
@@ -55,7 +55,7 @@ module _ {W : Type 0} where
       go true e ih = ih ∙ rw (eqb-same (v .number) (u .number) n (eqb-true _ _ e)) (same (eqb (u .number) n))
       go false e ih = rw ih (other (eqb (v .number) n) (eqb (u .number) n) (eqb-apart (v .number) (u .number) n e))
 
-  -- the last accepted upload under n is what stands under n among the live ones
+  -- the last accepted upload under n is what is under n among the live ones
   pub find-live : (n : ℕ) (h : List (Upload W)) → find n (live h) ≡ find n h
   find-live n [] = refl
   find-live n (u ∷ h) = find-stored n u (live h) ∙ ap (λ (o : Option (Upload W)). cond (eqb (u .number) n) (some u) o) (find-live n h)
@@ -86,7 +86,7 @@ module _ {W : Type 0} where
       go true ih = omega arith
       go false ih = omega arith
 
-  -- one goes at least, where the number is held
+  -- at least one goes if the number is held
   length-without-held : (n : ℕ) (us : List (Upload W)) → holds n us ≡ true → length (without n us) < length us
   length-without-held n [] h = absurd (false≢true h)
   length-without-held n (u ∷ us) h = go (eqb (u .number) n) h (length-without-held n us)

@@ -1,4 +1,4 @@
--- When no later slot has a number: its mark is not set, or it stands among all numbers once. Assumes nothing.
+-- When no later slot has a number: its mark is not set, or it is among all numbers once. Assumes nothing.
 use Prim.Native.Nat.{ℕ, zero, suc, _+_, _%_, _≤_, _<_}
 use mathlib.Core.Path.{_≡_, refl, sym, ap, _∙_}
 use mathlib.Core.Bool.{Bool, true, false, cond, true≢false}
@@ -15,11 +15,11 @@ use Rattle.store.specs.Slots.{noSlot, fresh}
 use Rattle.store.specs.Tests.{differ, numberOf, hits}
 use Rattle.store.specs.declared.Slot.{Slot}
 
--- where a number's mark is not set, no slot has it
+-- if a number's mark is not set, no slot has it
 abbrev pub Marked : List Bool → List Slot → Type 0
 Marked marks ss = (n : ℕ) → getD marks (n % 509) false ≡ false → fresh n ss ≡ true
 
--- ---- how often a number stands in a list, by the element at i and those after it
+-- ---- how often a number is in a list, by the element at i and those after it
 module _ (n : ℕ) (xs : List ℕ) (i : ℕ) (here : i < length xs) where
   numbers-from : drop i xs ≡ getD xs i 0 ∷ drop (i + 1) xs
   numbers-from = drop-cons xs i 0 here ∙ ap (λ (k : ℕ). getD xs i 0 ∷ drop k xs) (sym (add-one i))
@@ -34,7 +34,7 @@ pub hits-end : (n : ℕ) (xs : List ℕ) (i : ℕ) → length xs ≤ i → hits 
 hits-end n xs i h = ap (hits n) (drop-of-length-le xs h)
 
 -- ---- when no later slot has a number
--- a number that stands nowhere is no slot's
+-- a number that is nowhere is no slot's
 none-fresh : (n : ℕ) (ss : List Slot) → hits n (map numberOf ss) ≡ 0 → fresh n ss ≡ true
 none-fresh n [] h = refl
 none-fresh n (s ∷ ss) h = go (s .held) (eqb (s .number) n) h (λ e. none-fresh n ss e)
@@ -86,7 +86,7 @@ module _ (ss : List Slot) (i j : ℕ) (next : i + 1 ≡ j) (here : i < length ss
           ∙ ap (λ (k : ℕ). fresh n (drop k ss)) next
           ∙ m n (sym (getD-set-other marks (s .number % 509) (n % 509) true false p) ∙ h)
 
-  -- a number that stands there once is its own slot's
+  -- a number that is there once is its own slot's
   pub once-fresh : hits (s .number) (map numberOf ss) ≤ 1 → fresh (s .number) (drop j ss) ≡ true
   once-fresh h =
       let here-on : hits (s .number) (map numberOf (drop i ss)) ≡ suc (hits (s .number) (map numberOf (drop j ss))) = rw (from, eq-eqb (s .number) (s .number) refl) in

@@ -20,7 +20,7 @@ use Rattle.store.proofs.Laws.{Apart, without-none, all-mid, cards-appen
 use Rattle.store.proofs.Walk.{none-holds}
 use Rattle.store.proofs.Held.{Sized, Rep, ok-rep, view-told}
 
--- looking a number up in slots and words is looking it up in the uploads that they tell
+-- looking a number up in slots and words is looking it up in the uploads that they contain
 pub look-is : (k : Kind) (n : ℕ) (ss : List Slot) (store : List ℕ) → looked k store (slotFor n ss) ≡ find n (view k ss store)
 look-is k n [] store = refl
 look-is k n (s ∷ ss) store = go (s .held) (eqb (s .number) n) refl (look-is k n ss store)
@@ -71,7 +71,7 @@ old-of n at m (u ∷ us) s d e = go (eqb (u .number) n) refl e (old-of n (at + l
         let sum : at + length (u .words) + total (cards (o .xs)) ≡ at + (length (u .words) + total (cards (o .xs))) = omega arith in
         record { xs = u ∷ o .xs; v = o .v; ys = o .ys; is = ap (λ (l : List Whole). u ∷ l) (o .is); gone = rw (b, o .gone); slot = rw sum at (o .slot) }
 
--- ---- the closing up: from A B C R to A C, and the rest where it stood
+-- ---- the closing up: from A B C R to A C, and the rest where it was
 close : (A B C R store : List ℕ) (a b c : ℕ) → store ≡ A ++ (B ++ (C ++ R)) → length A ≡ a → length B ≡ b → length C ≡ c
     → paste store a (drop (a + b) store) c ≡ (A ++ C) ++ drop (a + c) store
 close A B C R store a b c e p q r =
@@ -117,7 +117,7 @@ module _ (k : Kind) (slots : List Slot) (store : List ℕ) (n : ℕ) (long : len
         last n ws us store store end end all (rw same all) (omega arith) (rw (same, all) (rep .words-are)),
       )
 
-  -- something is: where it stands, what is left without it, and the words once later ones have closed up
+  -- something is: where it is, what is left without it, and the words once later ones have closed up
   pub record Spot (s : Slot) : Type 0 where
     pub sides : sidesOk k (s .width) (s .height) ≡ true
     pub inside : s .start + areaOf k (s .width) (s .height) ≤ total (told k slots)

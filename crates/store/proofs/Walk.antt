@@ -45,7 +45,7 @@ slots-last cs c i at p q h =
     rw (p, q, here, left, place-append 0 cs (c ∷ []), zero-add (total cs), append-assoc)
     (set-at (place 0 cs) noSlot (replicate m noSlot) (slotOf (total cs) c) (length cs) (length-place 0 cs))
 
--- ---- what slots tell
+-- ---- what slots say
 told-append : (k : Kind) (xs ys : List Slot) → told k (xs ++ ys) ≡ told k xs ++ told k ys
 told-append k [] ys = refl
 told-append k (x ∷ xs) ys = go (x .held) (told-append k xs ys)
@@ -62,7 +62,7 @@ length-told k (s ∷ ss) = go (s .held) (length-told k ss)
     go true ih = omega arith
     go false ih = omega arith
 
--- ---- the search finds a number exactly where a held slot tells it
+-- ---- the search finds a number exactly if a held slot has it
 abbrev isFound : Found → Bool
 isFound (At s) = true
 isFound Nothing = false
@@ -194,7 +194,7 @@ area-most Model n h e =
     omega (arith, leb-true n 18724 (and-right a b (and-left (a && b) (eqb h 0) e)))
 
 -- ---- the turns of `others`
--- the slots up to i are done: the cards of the other numbers stand in `out`, `count` of them, with so many words
+-- the slots up to i are done: the cards of the other numbers are in `out`, `count` of them, with so many words
 pub record Packed (k : Kind) (n : ℕ) (ss : List Slot) (i : ℕ) (out : List Slot) (count sum : ℕ) : Type 0 where
   pub within : i ≤ 64
   pub long : length ss ≡ 64

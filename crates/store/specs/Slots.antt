@@ -34,7 +34,7 @@ noSlot = record { held = false; number = 0; width = 0; height = 0; start = 0 }
 abbrev pub slotOf : ℕ → Card → Slot
 slotOf at c = record { held = true; number = c .number; width = c .wide; height = c .high; start = at }
 
--- areas that follow each other without a gap, here from a word on
+-- areas that follow each other without a gap, here from the word `at` on
 abbrev pub place : ℕ → List Card → List Slot
 place at [] = []
 place at (c ∷ cs) = slotOf at c ∷ place (at + c .words) cs
@@ -43,7 +43,7 @@ place at (c ∷ cs) = slotOf at c ∷ place (at + c .words) cs
 abbrev pub slotsOf : List Card → List Slot
 slotsOf cs = place 0 cs ++ replicate (slotCount - length cs) noSlot
 
--- ---- and back: what the held slots tell, alone and with the store's words
+-- ---- and back: what the held slots say, alone and with the store's words
 abbrev pub wholeOf : ℕ → ℕ → ℕ → List ℕ → Whole
 wholeOf n w h ws = record { number = n; wide = w; high = h; words = ws }
 
@@ -71,16 +71,16 @@ abbrev pub slotFor : ℕ → List Slot → Found
 slotFor n [] = Nothing
 slotFor n (s ∷ ss) = cond (s .held && eqb (s .number) n) (At s) (slotFor n ss)
 
--- and the upload that it tells
+-- and the upload of that slot
 abbrev pub looked : Kind → List ℕ → Found → Option Whole
 looked k store (At s) = some (uploadAt k s store)
 looked k store Nothing = none
 
--- what a store tells of a number
+-- what a store has under a number
 abbrev pub lookIn : Kind → List Slot → List ℕ → ℕ → Option Whole
 lookIn k ss store n = looked k store (slotFor n ss)
 
--- does the slot stay where an upload under n comes?
+-- does the slot stay when an upload under n comes?
 abbrev pub stays : ℕ → Slot → Bool
 stays n s = s .held && not (eqb (s .number) n)
 
@@ -122,11 +122,11 @@ abbrev pub unused : List Slot → Bool
 unused [] = true
 unused (s ∷ ss) = cond (zeroSlot s) (unused ss) false
 
--- a held slot whose area has to begin at a word, before those after it
+-- is the held slot s in order, if its area has to begin at the word `at` and the slots after it are ss?
 abbrev pub heldOk : Kind → ℕ → Slot → List Slot → Bool
 heldOk k at s ss = (sidesOk k (s .width) (s .height) && eqb (s .start) at) && fresh (s .number) ss
 
--- rule 1.12: slots whose areas begin at a word, in a store of a size
+-- rule 1.12: slots whose areas begin at the word `at`, in a store of `size` words
 abbrev pub slotsOk : Kind → ℕ → ℕ → List Slot → Bool
 slotsOk k size at [] = leb at size
 slotsOk k size at (s ∷ ss) =

@@ -7,7 +7,7 @@ use Rattle.store.specs.Slots.{areaOf, sidesOk, fresh, unused}
 use Rattle.store.specs.declared.Slot.{Slot}
 use Rattle.store.specs.declared.Kind.{Kind}
 
--- all of rule 1.12 but the numbers: slots whose areas begin at a word, in a store of a size
+-- all of rule 1.12 but the numbers: slots whose areas begin at the word `at`, in a store of `size` words
 abbrev pub laidOk : Kind → ℕ → ℕ → List Slot → Bool
 laidOk k size at [] = leb at size
 laidOk k size at (s ∷ ss) =
@@ -15,7 +15,7 @@ laidOk k size at (s ∷ ss) =
     (cond (sidesOk k (s .width) (s .height) && eqb (s .start) at) (laidOk k size (at + areaOf k (s .width) (s .height)) ss) false)
     (unused (s ∷ ss) && leb at size)
 
--- no two numbers are equal: of the slots up to the first unused one
+-- no two of the slots up to the first unused one have one number
 abbrev pub differ : List Slot → Bool
 differ [] = true
 differ (s ∷ ss) = cond (s .held) (fresh (s .number) ss && differ ss) true
@@ -24,7 +24,7 @@ differ (s ∷ ss) = cond (s .held) (fresh (s .number) ss && differ ss) true
 abbrev pub numberOf : Slot → ℕ
 numberOf s = s .number
 
--- how often a number stands in a list
+-- how often a number is in a list
 abbrev pub hits : ℕ → List ℕ → ℕ
 hits n [] = 0
 hits n (x ∷ xs) = cond (eqb x n) (suc (hits n xs)) (hits n xs)

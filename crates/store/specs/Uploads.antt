@@ -1,5 +1,5 @@
 -- The stores over plain lists: what is held, in the order of the areas, and what a whole history of accepted uploads leaves.
--- No slot and no place: one text for both kinds. Assumes nothing.
+-- There are no slots and no places here, and both kinds are alike. Assumes nothing.
 use Prim.Native.Nat.{ℕ, _+_}
 use mathlib.Core.Bool.{Bool, true, false, cond, not, _&&_}
 use mathlib.Core.Option.{Option, none, some}
@@ -52,7 +52,7 @@ module _ {W : Type 0} where
   abbrev pub stored : Upload W → List (Upload W) → List (Upload W)
   stored u us = without (u .number) us ++ (u ∷ [])
 
-  -- what a history of accepted uploads leaves, its newest first: of each number the last upload
+  -- what a history of accepted uploads, the newest first, leaves: the last upload of each number
   abbrev pub live : List (Upload W) → List (Upload W)
   live [] = []
   live (u ∷ h) = stored u (live h)
@@ -74,7 +74,7 @@ mostWords = 16777216
 abbrev pub slotCount : ℕ
 slotCount = 64
 
--- rule 8.4: what counts against an upload under n
+-- rule 8.4: how many words count against an upload under n
 abbrev pub counted : ℕ → List Card → ℕ
 counted n cs = total cs
 

@@ -138,7 +138,7 @@ fn numbers_of(slots: [Slot; SLOTS]) -> [u32; SLOTS]
     out
 }
 
-// How often the number stands there. All are looked at, so that several are at a time.
+// How often the number is there. All are looked at, so that several can be looked at at once.
 fn times(numbers: &[u32; SLOTS], number: u32) -> u32
     requires { ⌜ length (now numbers) ≡ slotCount ⌝ }
     ensures { λ r. ⌜ r ≡ hits number (now (numbers .entry)) ⌝ }
@@ -154,9 +154,9 @@ fn times(numbers: &[u32; SLOTS], number: u32) -> u32
     n
 }
 
-// Are the numbers of the held slots different? From the last slot to the first: a number whose mark
-// is not set is none of the later ones, and neither is one that stands there once; only then the
-// later ones are asked.
+// Are the numbers of the held slots different? This goes from the last slot to the first. A number
+// whose mark is not set is none of the later ones, and neither is one that is there only once. The
+// later ones are searched only for the rest.
 fn numbers_differ(slots: [Slot; SLOTS]) -> bool
     ensures { λ r. ⌜ r ≡ differ slots ⌝ }
 {
@@ -184,7 +184,7 @@ fn numbers_differ(slots: [Slot; SLOTS]) -> bool
     ok
 }
 
-// Rule 1.12, of a store of `size` words.
+// Rule 1.12, for a store of `size` words.
 pub fn slots_ok(kind: Kind, slots: [Slot; SLOTS], size: usize) -> bool
     ensures { λ r. ⌜ r ≡ slotsOk kind size 0 slots ⌝ }
 {

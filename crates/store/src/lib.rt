@@ -20,7 +20,7 @@ pub enum Kind {
     Model,
 }
 
-// One slot of a store. A model's count stands in `width`, and its `height` is 0. An unused slot is
+// One slot of a store. A model's count is in `width`, and its `height` is 0. An unused slot is
 // all zero.
 pub struct Slot {
     pub held: bool,
@@ -46,7 +46,7 @@ impl Slot {
     }
 }
 
-// What stands under a number.
+// What is held under a number.
 pub enum Found {
     At(Slot),
     Nothing,
@@ -75,8 +75,8 @@ fn fits(room: Room) -> bool
     }
 }
 
-// An upload that passed the checks of its command. Where it has no room nothing changes; else the
-// old upload of its number goes, later ones close up, and it stands last.
+// An upload that passed the checks of its command. If it has no room, nothing changes; else the old
+// upload of its number goes, later ones close up, and it is the last.
 pub fn upload(
     kind: Kind,
     slots: [Slot; SLOTS],

@@ -1,4 +1,4 @@
-// What the slots tell, whether an upload has room, and the slots after it: slots and lengths alone.
+// What the slots say, whether an upload has room, and the slots after it: slots and lengths alone.
 use crate::Found;
 use crate::Kind;
 use crate::Room;

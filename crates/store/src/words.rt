@@ -1,5 +1,6 @@
 // Runs of words inside a lent store: moved down, written, and made zero.
-// Each says the whole store afterwards as a `paste`: `paste d at s n` is d with the n elements from index `at` on replaced by s's first n.
+// Each says the whole store afterwards as a `paste`: `paste d at s n` is d with the n elements from
+// index `at` on replaced by s's first n.
 use crate::Found;
 use crate::Kind;
 use crate::SLOTS;
@@ -16,7 +17,7 @@ ghost use lib.Seq.{paste};
 ghost use Rattle.store.specs.Uploads.{without, total, mostWords};
 ghost use Rattle.store.specs.Slots.{told, view, over, wordsAfter, slotsOk};
 
-// The words from `from` up to `end` stand from `to` on afterwards, each moved once; the rest stays.
+// The words from `from` up to `end` begin at `to` afterwards, each moved once; the rest stays.
 fn move_down(store: &mut [u32], to: usize, from: usize, end: usize)
     requires { ⌜ to ≤ from ⌝ }
     requires { ⌜ from ≤ end ⌝ }
@@ -31,7 +32,7 @@ fn move_down(store: &mut [u32], to: usize, from: usize, end: usize)
     }
 }
 
-// The words stand from `at` on afterwards; the rest stays.
+// The words are there from `at` on afterwards; the rest stays.
 pub fn write_at(store: &mut [u32], at: usize, words: &[u32])
     requires { ⌜ at + length (now words) ≤ length (now store) ⌝ }
     ensures { λ _. ⌜ now (store .exit) ≡ paste (now (store .entry)) at (now (words .entry)) (length (now (words .entry))) ⌝ }
@@ -55,7 +56,7 @@ fn clear(store: &mut [u32], at: usize, n: usize)
     }
 }
 
-// The words stand from `at` on afterwards, then zeros up to `old`; the rest stays.
+// The words are there from `at` on afterwards, then zeros up to `old`; the rest stays.
 fn put_last(store: &mut [u32], at: usize, words: &[u32], old: usize)
     requires { ⌜ at + length (now words) ≤ length (now store) ⌝ }
     requires { ⌜ old ≤ length (now store) ⌝ }
@@ -69,7 +70,7 @@ fn put_last(store: &mut [u32], at: usize, words: &[u32], old: usize)
 }
 
 // The words of an upload that has room: those of the old one under its number go, later ones close
-// up, each moved once, and the new ones stand last.
+// up, each moved once, and the new ones are the last.
 pub fn put(kind: Kind, slots: [Slot; SLOTS], store: &mut [u32], number: u32, words: &[u32])
     requires { ⌜ slotsOk kind (length (now store)) 0 slots ≡ true ⌝ }
     requires { ⌜ length (now store) ≤ mostWords ⌝ }

@@ -1,8 +1,8 @@
 // Replays uploads from standard input against a local store and prints, after each, the answer and
 // digests of the slots and of the store's words. The input is words, little-endian: 0 (texture)
 // or 1 (model), number, width, height and a count are an upload, whose words follow; 2, a size and
-// three zeros begin a store of that size anew, every word of it `FILL`. `oracle/store_list.py` writes both
-// the input and what has to be printed.
+// three zeros begin a store of that size anew, every word of it `FILL`. `oracle/store_list.py`
+// writes both the input and what has to be printed.
 use libc::STDOUT_FILENO;
 use store::Kind;
 use store::Room;

@@ -1,4 +1,4 @@
--- Of strokes, for a caller that paints several. Assumes nothing.
+-- Laws of strokes, for a caller that paints several. Assumes nothing.
 --     strokes-append                  those of two lists, one after the other
 --     triangle-long, fan-long         a triangle and a fan keep the lengths of the plane and of the depths
 --     stroke-long, strokes-long       and so do a stroke and strokes

@@ -47,7 +47,7 @@ unfoldable pub strokesOn : List Stroke → Sheet → Sheet
 strokesOn [] s = s
 strokesOn (k ∷ ks) s = strokesOn ks (strokeOn k s)
 
--- a brush's texture, if it has one, is in these many words
+-- a brush's texture, if it has one, fits into n words
 abbrev pub Stored : Brush → ℕ → Type 0
 Stored (Flat c) n = Unit
 Stored Blended n = Unit

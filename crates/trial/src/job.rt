@@ -12,7 +12,7 @@ pub struct Plan {
     pub reset: bool,
     // Are the memories marked before the call, so that what is left alone can be seen?
     pub marked: bool,
-    // Of plane, depth, float depth, command area, textures and models.
+    // The lengths of plane, depth, float depth, command area, textures and models.
     pub lengths: [usize; 6],
 }
 

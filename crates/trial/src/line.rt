@@ -130,8 +130,8 @@ fn step(t: Token, b: u8) -> Token
     u
 }
 
-// As far as the line goes: how many there are. Each comes after a space or a brace, so what is before
-// the first goes to the last place, which means nothing.
+// Reads as far as the line goes, and answers how many there are. Each comes after a space or a
+// brace, so what is before the first goes to the last place, which means nothing.
 fn scan(text: &[u8], letters: &mut [u8; MOST], numbers: &mut [u32; MOST]) -> usize
     ensures { λ r. ⌜ r ≤ 64 ⌝ }
 {
@@ -217,7 +217,7 @@ pub fn op_at(l: Line, k: usize) -> Op
     op_of(&letters, &numbers, k)
 }
 
-// The one in braces.
+// The operation in braces.
 pub fn op_in(text: &[u8]) -> Op {
     let mut letters = [0u8; MOST];
     let mut numbers = [0u32; MOST];

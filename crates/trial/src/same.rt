@@ -13,7 +13,7 @@ fn both(a: bool, b: bool) -> bool {
     if a { b } else { false }
 }
 
-// And was it the same before these?
+// Are these the same, and were those before?
 fn floats(before: bool, a: &[f32], b: &[f32]) -> bool {
     if a.len() != b.len() {
         return false;

@@ -11,7 +11,7 @@ ghost use Rattle.screen.specs.Plane.{planeBytes};
 ghost use Rattle.screen.specs.Draw.{pixels};
 ghost use Rattle.raster.specs.Ink.{Texture};
 
-// 0 where the triangle is drawn, else one more than the index of the word that is refused.
+// 0 if the triangle is drawn, else one more than the index of the word that is refused.
 #[no_mangle]
 pub extern "C" fn triangle_flat(plane: &mut [u8], depth: &mut [i32], p: &[u32]) -> u32
     requires { ⌜ length (now plane) ≡ planeBytes ⌝ }
@@ -52,7 +52,7 @@ fn flat_of(x: &[f32]) -> Flat {
     Flat::Some(color(x))
 }
 
-// Three vertices of 16. `flat` has four floats, or none where the colours of the corners count.
+// Three vertices of 16. `flat` has four floats, or none if the colours of the corners count.
 #[no_mangle]
 pub extern "C" fn triangle_transformed(
     plane: &mut [u8],

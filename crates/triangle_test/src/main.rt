@@ -1,7 +1,7 @@
-// Replays what the original makes of triangles. Standard input is words, the lowest byte first: 32 of
-// a texture of 8 by 8, then 2,000 records of 11 for flat triangles, then 2,000 of 52 floats: three
-// vertices of 16 and a colour. The float triangles are drawn in each of five ways. For every 50
-// triangles, drawn on cleared buffers, it prints the digests of the plane and of both depths.
+// Replays what the original makes of triangles. Standard input is words, the lowest byte first: 32
+// of a texture of 8 by 8, then 2,000 records of 11 for flat triangles, then 2,000 of 52 floats:
+// three vertices of 16 and a colour. The float triangles are drawn in each of five ways. For every
+// 50 triangles, drawn on cleared buffers, it prints the digests of the plane and of both depths.
 use libc::STDIN_FILENO;
 use libc::STDOUT_FILENO;
 use screen::plane::Rgba;
@@ -82,8 +82,8 @@ fn textured(plane: &mut [u8], depth_f32: &mut [f32], texels: &[u32; 32], mode: u
     triangle_c::triangle_textured(plane, depth_f32, &x, 8, 8, texels, mode, &color);
 }
 
-// Draws the record that comes first. The lengths are tested here, so that nothing has to be shown of
-// the arrays before.
+// Draws the record that comes first. The lengths are tested here, so that nothing has to be shown
+// of the arrays before.
 fn draw(
     kind: u32,
     plane: &mut [u8],

@@ -1,4 +1,4 @@
--- Matrices of four by four, row by row; the machine's three stand in one list of 48. The original's `identity_matrix`, `transform_matrix` and
+-- Matrices of four by four, row by row; the machine's three are in one list of 48. The original's `identity_matrix`, `transform_matrix` and
 -- `multiply_matrix`. Definitions only.
 use Prim.Native.Nat.{ℕ, _+_}
 use mathlib.Core.List.{List, [], _∷_, _++_}

@@ -24,7 +24,7 @@ minorOf p q r s = p · q ⊖ r · s
 abbrev pub detOf : Matrix3 → Float
 detOf m = m .a · minorOf (m .e) (m .i) (m .f) (m .h) ⊖ m .b · minorOf (m .d) (m .i) (m .f) (m .g) ⊕ m .c · minorOf (m .d) (m .h) (m .e) (m .g)
 
--- the inverse's column by column, which is its transpose's row by row
+-- the inverse column by column, which is its transpose row by row; inv is 1 / det
 abbrev pub cofactorsOf : Matrix3 → Float → Matrix3
 cofactorsOf m inv = record {
   a = minorOf (m .e) (m .i) (m .f) (m .h) · inv;

@@ -1,4 +1,4 @@
-// The three matrices of the machine stand in one array of 48 cells, row by row.
+// The three matrices of the machine are in one array of 48 cells, row by row.
 ghost use mathlib.Core.Path.{_≡_};
 ghost use Prim.Native.Nat.{_*_, _<_, _≤_};
 ghost use Rattle.vector.specs.Matrices.{rowOf, cellOf, crossOf, transformOf, multiplyOf};
@@ -7,7 +7,7 @@ pub struct Matrix {
     pub cells: [f32; 16],
 }
 
-// The row that begins at cell p.
+// The row that begins at cell p, times v.
 fn row(m: &[f32; 48], p: usize, v: [f32; 4]) -> f32
     requires { ⌜ p ≤ 44 ⌝ }
     ensures { λ r. ⌜ r ≡ rowOf (now (m .entry)) p v ⌝ }

@@ -53,8 +53,8 @@ fn determinant(m: Matrix3) -> f32
         + m.c * minor(m.d, m.h, m.e, m.g)
 }
 
-// The cofactors, each times what the determinant divides by: the original builds the inverse and
-// then swaps rows and columns.
+// The cofactors, each times 1 / determinant. The original builds the inverse and then swaps rows
+// and columns.
 fn cofactors(m: Matrix3, inv_det: f32) -> Matrix3
     ensures { λ r. ⌜ r ≡ cofactorsOf m «inv_det» ⌝ }
 {

@@ -8,7 +8,7 @@ pub fn dot(a: [f32; 3], b: [f32; 3]) -> f32
     a[0] * b[0] + a[1] * b[1] + a[2] * b[2]
 }
 
-// The vector brought to length 1, where its length is in hand. The literal is f32::EPSILON, 2^-23.
+// The vector brought to length 1, with its length handed in. The literal is f32::EPSILON, 2^-23.
 pub fn scaled(vector: [f32; 3], length: f32) -> [f32; 3]
     ensures { λ r. ⌜ r ≡ scaledOf vector length ⌝ }
 {

@@ -22,7 +22,7 @@ pub and-done : (a : Verdict) → andThen a Done ≡ a
 and-done Done = refl
 and-done (Refused reason index) = refl
 
--- a check of code, that comes to w: where it refuses the rest is not made, and where it finds nothing the rest decides
+-- a check of code that comes to w: if it refuses, the rest is not made, and if it finds nothing, the rest decides
 module _ {v w : Verdict} (e : v ≡ w) where
   pub stopped : (next : Verdict) {reason : Reason} {index : ℕ} → v ≡ Refused reason index → v ≡ andThen w next
   stopped next h = rw (← e, h)

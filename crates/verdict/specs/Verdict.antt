@@ -30,14 +30,14 @@ abbrev pub bitsOf : Verdict → ℕ
 bitsOf Done = 0
 bitsOf (Refused r i) = bitFor (numberOf r)
 
--- what refusals leave behind: nothing yet; and, by rule 1.14, after a command, or a header, of this opcode that came to v
+-- what refusals leave behind: nothing, if there were none; and, by rule 1.14, what is left after a command or a header of this opcode came to v
 abbrev pub noNotes : Notes
 noNotes = record { status = 0 }
 
 abbrev pub notedOf : Notes → ℕ → Verdict → Notes
 notedOf n opcode v = record { status = bitOr (n .status) (bitsOf v) }
 
--- rule 3.4: one check, and if it finds nothing the next
+-- rule 3.4: one check, and if it finds nothing, the next
 abbrev pub andThen : Verdict → Verdict → Verdict
 andThen Done v = v
 andThen (Refused reason index) v = Refused reason index

@@ -20,7 +20,7 @@ pub enum Reason {
     NoWords,
 }
 
-// The index is 0 where a reason has no word to point at.
+// The index is 0 if a reason has no word to point at.
 pub enum Verdict {
     Done,
     Refused { reason: Reason, index: u32 },
@@ -82,7 +82,7 @@ pub fn not_invertible() -> Verdict
     }
 }
 
-// One check, and where it finds nothing the next.
+// One check, and if it finds nothing, the next.
 pub fn and_then(first: Verdict, next: Verdict) -> Verdict
     ensures { λ r. ⌜ r ≡ andThen first next ⌝ }
 {

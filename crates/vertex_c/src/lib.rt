@@ -34,7 +34,7 @@ fn nine(m: Matrix3) -> [f32; 9] {
     [m.a, m.b, m.c, m.d, m.e, m.f, m.g, m.h, m.i]
 }
 
-// A matrix of 16. Where there is no inverse the answer is false and nothing is written.
+// A matrix of 16. If there is no inverse, the answer is false and nothing is written.
 #[no_mangle]
 pub extern "C" fn vertex_inverse(x: &[f32], out: &mut [f32; 9]) -> bool
     requires { ⌜ 16 ≤ length (now x) ⌝ }
@@ -96,7 +96,7 @@ pub extern "C" fn vertex_distance(x: &[f32], plane: usize) -> f32
     clip::vertex::clip_distance(record::corner(record::four(x, 0)), plane)
 }
 
-// `count` vertices of 16 in, as many as are answered out.
+// `count` vertices of 16 go in, and the answer says how many come out.
 #[no_mangle]
 pub extern "C" fn vertex_clip(x: &[f32], count: usize, plane: usize, out: &mut [f32; 448]) -> usize
     requires { ⌜ (count ≤ 19) × (count * 16 ≤ length (now x)) ⌝ }
@@ -106,7 +106,7 @@ pub extern "C" fn vertex_clip(x: &[f32], count: usize, plane: usize, out: &mut [
     polygon::put(cut, out)
 }
 
-// Three vertices of 16 in, as many as are answered out.
+// Three vertices of 16 go in, and the answer says how many come out.
 #[no_mangle]
 pub extern "C" fn vertex_clip_all(x: &[f32], out: &mut [f32; 448]) -> usize
     requires { ⌜ 48 ≤ length (now x) ⌝ }

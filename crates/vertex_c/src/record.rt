@@ -67,7 +67,7 @@ pub fn sixteen(x: &[f32]) -> [f32; 16]
     ]
 }
 
-// The record's cells from the start of the machine's three matrices on, then zeros.
+// The record's cells as those of the machine's three matrices, then zeros.
 pub fn matrices(x: &[f32]) -> [f32; 48] {
     let mut m = [0.0; 48];
     let mut i: usize = 0;
@@ -129,7 +129,7 @@ fn light(x: &[f32], k: usize) -> Light
     }
 }
 
-// The eight lights that stand from cell 10 on.
+// The eight lights from cell 10 on.
 pub fn lights(x: &[f32]) -> [Light; 8]
     requires { ⌜ 138 ≤ length (now x) ⌝ }
 {

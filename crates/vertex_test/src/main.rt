@@ -92,7 +92,7 @@ fn shade(h: u64, x: &[f32; 138]) -> u64 {
     four(h, &out)
 }
 
-// The plane's number stands as a word before the position.
+// The plane's number is a word before the position.
 fn distance(h: u64, x: &[f32; 138]) -> u64 {
     let plane = ieee::bits::bits_of(x[0]);
     let position = [x[1], x[2], x[3], x[4]];

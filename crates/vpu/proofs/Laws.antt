@@ -213,11 +213,11 @@ module _ {ws : List ℕ} {m₀ : Machine} {s : State} {f : Frame} {P : List ℕ}
           of-models = h .of-models;
         })
 
-    -- what the command is, of a state with this frame
+    -- what the command is, in a state with this frame
     pub held-is : {t : State} {r c : Command} → t ≡ withFrame s f′ → r ≡ commandOf (f′ .opcode) → r ≡ c → commandOf (t .opcode) ≡ c
     held-is e a b = ap (λ (x : State). commandOf (x .opcode)) e ∙ sym a ∙ b
 
-    -- of a command that paints nothing
+    -- for a command that paints nothing
     pub held-command : {t s″ : State} {f″ : Frame} {T″ M″ : List ℕ}
         → readyOf f′ ≡ true → t ≡ withFrame s f′ → execute asBox (controlOf t C′ T M) .paints ≡ []
         → controlOf s″ C′ T″ M″ ≡ execute asBox (controlOf t C′ T M) .control
@@ -249,7 +249,7 @@ module _ {ws : List ℕ} {m₀ : Machine} {s : State} {f : Frame} {P : List ℕ}
           rest = rw x (rw e (rw (turned true r) at (run-turn asBox ws k _ _ is-more (held .rest))));
         })
 
-    -- of a command that leaves settings and stores alone
+    -- for a command that leaves settings and stores alone
     pub held-painted : {f″ : Frame} {P″ : List ℕ} {D″ : List ℤ} {F″ : List Float}
         → readyOf f′ ≡ true
         → machine (withFrame s f″) P″ D″ F″ C′ T M ≡ executed asBox (machine (withFrame s f′) P D F C′ T M)

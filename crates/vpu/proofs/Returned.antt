@@ -1,4 +1,4 @@
--- A returned state is well formed where the given one was, whatever the words: a word keeps a control well formed, and so does a run of them. Assumes nothing.
+-- A returned state is well formed if the given one was, whatever the words: a word keeps a control well formed, and so does a run of them. Assumes nothing.
 use Prim.Native.Nat.{ℕ, _+_, _-_, _/_, _%_, _≤_, _<_}
 use mathlib.Core.Path.{_≡_, refl}
 use mathlib.Core.Bool.{Bool, true, false, cond}
@@ -87,7 +87,7 @@ module _ {t m : ℕ} where
   run-good [] x s h = h
   run-good (w ∷ ws) x s h = run-good ws (wordOn asBox x w) (s .1) (word-good (x .control) w (s .0) h)
 
--- of any call that feeds: whatever it answers, the state that it gives back is well formed where the given one was, for the same stores
+-- for any call that feeds: whatever it answers, the state that it gives back is well formed if the given one was, for the same stores
 pub returned-formed : (s : State) (ws : List ℕ) (P : List ℕ) (D : List ℤ) (F : List Float) (C T M : List ℕ) → length (s .textures) ≡ 64 → length (s .models) ≡ 64 → Small ws
     → wellFormed s (length T) (length M) ≡ true → wellFormed (stateOf (feed s ws P D F C T M .machine)) (length T) (length M) ≡ true
 unfolding feed

@@ -83,7 +83,7 @@ module _ {X : Type 0} (K : Keep X) where
   unfolding execute
   whole-ends c op payload = refl
 
--- ---- of the machine itself: the payload that `execute` reads then is the one that was sent
+-- ---- for the machine itself: the payload that `execute` reads then is the one that was sent
 added-box : (t m : Shelf) (C : List ℕ) (g : ℕ) (ws : List ℕ) → added asBox (box t m C g) ws ≡ box t m (sets C g ws) (g + length ws)
 added-box t m C g [] = rw add-zero
 added-box t m C g (w ∷ ws) =

@@ -18,7 +18,7 @@ use Rattle.vpu.specs.Framing.{run}
 use Rattle.vpu.specs.declared.Answer.{Answer}
 use Rattle.vpu.specs.declared.Answer.the-variants.{Done, WrongLength, Malformed}
 
--- the table's numbers
+-- the numbers of the answers
 abbrev pub numberOf : Answer → ℕ
 numberOf Done = 0
 numberOf WrongLength = 1
@@ -29,7 +29,7 @@ abbrev pub Small : List ℕ → Type 0
 Small [] = Unit {0}
 Small (w ∷ ws) = (w < 4294967296) × Small ws
 
--- the state that a machine is with its lent memory
+-- the state in a machine, which is a state with its lent memory
 abbrev pub stateOf : Machine → State
 stateOf m = record {
   settings = m .control .settings;

@@ -13,6 +13,6 @@ module _ {X : Type 0} (K : Keep X) where
   abbrev pub added : X → List ℕ → X
   added = foldl (λ x w. K .add w x)
 
-  -- that command begun, and its payload complete: what `execute` is asked then
+  -- that command begun, and its payload complete: what `execute` is given then
   abbrev pub complete : Control X → ℕ → List ℕ → Control X
   complete c op payload = record { settings = c .settings; notes = c .notes; opcode = op; wanted = 0; box = added (c .box) payload }

@@ -77,7 +77,7 @@ fn zero_words(store: &mut [u32])
     }
 }
 
-// Lends the command area only to have its length tested: a reset leaves it as it is.
+// The command area is lent only to have its length tested: a reset leaves it as it is.
 pub fn reset(
     plane: &mut [u8],
     depth: &mut [i32],

@@ -1,5 +1,5 @@
-// The loop over the words: payload is copied in runs and moves four numbers, as commands that paint do;
-// those that set or load move the state.
+// The loop over the words. Payload is copied in runs. In the state it changes only the framing's
+// four numbers, and so do commands that paint. Those that set or load change the rest too.
 use execute::after_load;
 use execute::after_set;
 use execute::command::Command;
@@ -28,7 +28,7 @@ ghost use Rattle.vpu.specs.Framing.{run};
 ghost use Rattle.vpu.specs.Sound.{Sound};
 
 // A command that paints changes neither settings nor stores, so that the state need not be built
-// again: of the state it moves the frame alone.
+// again: only the frame changes.
 fn painted(
     draw: Draw,
     s: State,

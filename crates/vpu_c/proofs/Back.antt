@@ -1,4 +1,4 @@
--- A state put out and taken in again is the state; plain data taken in and put out again is the same where every switch is 0 or 1. Assumes nothing.
+-- A state put out and taken in again is the state; plain data taken in and put out again is the same if every switch is 0 or 1. Assumes nothing.
 use Prim.Native.Nat.{ℕ, zero, suc, _≤_}
 use mathlib.Core.Path.{_≡_, refl}
 use mathlib.Core.Bool.{Bool, true, false, and-eq-true-iff}

@@ -1,4 +1,4 @@
--- The state as plain data and the state of the machine, each from the other: switches are bytes, settings stand flat. Definitions only.
+-- The state as plain data and the state of the machine, each from the other: switches are bytes, and settings are fields of the state itself. Definitions only.
 use Prim.Native.Nat.{ℕ}
 use mathlib.Core.Bool.{Bool, true, false, not, _&&_}
 use mathlib.Core.List.{map}

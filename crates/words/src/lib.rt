@@ -1,6 +1,6 @@
 // Bytes to words of four bytes, the lowest first: for programs that read a machine's words from a
-// file. Beside it two casts and the smaller of two numbers, as functions, so that a caller that goes
-// through a slice is asked for the index alone.
+// file. Beside it two casts and the smaller of two numbers, as functions, so that a caller that
+// goes through a slice is asked for the index alone.
 ghost use mathlib.Core.Path.{_≡_};
 ghost use Prim.Native.Nat.{ℕ, _*_, _/_, _<_, _≤_, min};
 ghost use lib.ListN.{length, getD};

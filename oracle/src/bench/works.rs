@@ -9,16 +9,16 @@ use vpu_oracle::words::read_words;
 
 pub struct Work {
     pub name: String,
-    /// What a time is given for, and how many of them the words have.
+    /// The unit that a time is given for, and how many of them the words have.
     pub unit: &'static str,
     pub count: usize,
     /// Fed once, and fed before each round; neither is timed.
     pub before: Vec<u32>,
     pub each: Vec<u32>,
     pub words: Vec<u32>,
-    /// Words of a call; a round is one call where it has no more.
+    /// Words of a call; if a round has no more, it is one call.
     pub per_call: usize,
-    /// At the end.
+    /// The status at the end.
     pub status: u32,
 }
 
@@ -38,7 +38,7 @@ impl Work {
         Self { before, ..self }
     }
 
-    /// With empty depths before each round, so that as much is drawn in each.
+    /// With empty depths before each round, so that each draws as much.
     fn on_empty_depths(self) -> Self {
         Self { each: words_of(&[Command::clear(2, 0, 0)]), ..self }
     }
@@ -70,7 +70,7 @@ fn size((width, height): Frame) -> String {
 /// Triangles of a work.
 const DRAWS: i32 = 100;
 
-/// A triangle that fills half its box, wherever on the screen; `shift` moves it off the screen.
+/// A triangle that fills half its box, anywhere on the screen; `shift` moves it off the screen.
 fn corners((width, height): Frame, index: i32, shift: [i32; 2]) -> [[i32; 2]; 3] {
     let random = &mut Random::named("timed", width as u64, index as u64);
     let (x, y) = (random.between(0, 319 - width) + shift[0], random.between(0, 239 - height) + shift[1]);
@@ -78,7 +78,7 @@ fn corners((width, height): Frame, index: i32, shift: [i32; 2]) -> [[i32; 2]; 3]
     [[x, y], [x + width, y + down], [x + across, y + height]]
 }
 
-/// Each is nearer than those before it.
+/// Flat triangles, each nearer than those before it.
 fn flat(frame: Frame) -> Vec<Command> {
     let draw = |index| {
         let depths = [0, 1, 2].map(|place| place - 10 * index);
@@ -236,7 +236,7 @@ fn upload(name: &str, command: Command) -> Work {
     Work::new(name, "upload", 1, words_of(&[command]))
 }
 
-/// Of 64 held, any is sent again; or the oldest each time, so that all others move. A call for each.
+/// 64 are held. Any of them is sent again, or the oldest each time, so that all others move. Each is a call.
 fn uploads_again(which: &str, numbers: Vec<u32>) -> Work {
     let sent: Vec<Command> = numbers.iter().map(|&number| texture(number, 64, 64)).collect();
     let all: Vec<Command> = (0..64).map(|number| texture(number, 64, 64)).collect();
@@ -250,7 +250,7 @@ fn any_of_64() -> Vec<u32> {
     (0..256).map(|_| random.below(64)).collect()
 }
 
-/// A command that is refused, header included.
+/// A refused command of so many words, header included.
 fn payload(words: usize) -> Work {
     let command = Command { opcode: 0x03, payload: vec![0x1234_5678; words - 1] };
     let name = format!("payload, {} words", thousands(words));

@@ -28,7 +28,7 @@ impl Differences {
         }
     }
 
-    /// Whether there was none; the shortest stream goes to the file.
+    /// Returns whether there was none. The shortest stream goes to the file.
     pub fn report(&self, file: &str) -> Result<bool, String> {
         if self.count > 0 {
             let bytes = little_endian(&encode_calls(&self.shortest));

@@ -8,7 +8,7 @@ pub use ffi::{Slot, State};
 use ffi::{vpu_feed, vpu_pixel, vpu_reset, Light};
 use vpu_oracle::judge::{Start, AREA};
 
-/// What stands in the state before a reset gives one.
+/// What is in the state before a reset gives one.
 const NO_LIGHT: Light = Light {
     enabled: 0,
     ambient: [0.0; 3],
@@ -62,8 +62,9 @@ pub const MOST_STORE: usize = 16_777_216;
 /// Lengths of plane, depths, float depths, command area, texture store and model store.
 pub type Lengths = [usize; 6];
 
-/// The port's state and the six memories that it is lent. Each has an element more than may be lent: a length that is too great is
-/// true, and what stands after the lent part can be seen to stay. The stores take no memory where they are not touched.
+/// The port's state and the six memories that it is lent. Each has one element more than may be lent. So a length that
+/// is too great by one is still true, and what is after the lent part can be seen to stay. The parts of the stores that
+/// are not touched take no memory.
 pub struct Port {
     plane: Vec<u8>,
     depth: Vec<i32>,
@@ -74,7 +75,7 @@ pub struct Port {
     pub state: State,
 }
 
-/// What stands after the lent part of a store.
+/// What is after the lent part of a store.
 const AFTER: u32 = 0xa5a5_5a5a;
 
 impl Port {
@@ -91,7 +92,7 @@ impl Port {
         }
     }
 
-    /// The answer.
+    /// Returns the answer.
     pub fn reset(&mut self, start: Start) -> u32 {
         for (place, length) in start.stores.into_iter().enumerate() {
             self.lengths[4 + place] = length;
@@ -102,7 +103,7 @@ impl Port {
         answer
     }
 
-    /// The answer.
+    /// Returns the answer.
     pub fn feed(&mut self, words: &[u32]) -> u32 {
         let (answer, state) = self.try_feed(self.state, words, self.lengths);
         self.state = state;
@@ -143,7 +144,7 @@ impl Port {
 impl Port {
     pub fn try_reset(&mut self, lengths: Lengths) -> (u32, State) {
         self.assert_there(lengths);
-        // SAFETY: every pointer is that of a vector of at least the length beside it.
+        // SAFETY: every pointer is that of a vector of at least the length that follows.
         let fed = unsafe {
             vpu_reset(
                 self.plane.as_mut_ptr(),

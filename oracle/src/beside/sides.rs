@@ -7,7 +7,7 @@ use vpu_oracle::original::Vpu;
 use vpu_oracle::streams::Stream;
 use vpu_oracle::watch::Watch;
 
-/// Read through the interface at the end of a stream; the last two lie outside.
+/// Pixels that are read through the interface at the end of a stream; the last two are off the screen.
 const PIXELS: [(usize, usize); 6] = [(0, 0), (319, 239), (160, 120), (161, 77), (320, 0), (0, 240)];
 
 pub struct Sides {
@@ -21,24 +21,24 @@ impl Sides {
         Self { port: Port::new(), judge: Judge::new() }
     }
 
-    /// Resets both; what differs afterwards, if anything.
+    /// Resets both; returns what differs afterwards, if anything.
     pub fn reset(&mut self, start: Start) -> Option<String> {
         self.judge.reset(start);
         other_answer(0, self.port.reset(start)).or_else(|| self.difference())
     }
 
-    /// Feeds both; another answer than 0, if there is one.
+    /// Feeds both; returns an answer other than 0, if there is one.
     pub fn prepare(&mut self, words: &[u32], watch: &mut Watch) -> Option<String> {
         let misread = self.judge.feed(words, watch);
         other_answer(0, self.port.feed(words)).or(misread)
     }
 
-    /// Feeds both; what differs afterwards, if anything.
+    /// Feeds both; returns what differs afterwards, if anything.
     pub fn feed(&mut self, words: &[u32], watch: &mut Watch) -> Option<String> {
         self.prepare(words, watch).or_else(|| self.difference())
     }
 
-    /// In anything but the command area.
+    /// What differs in anything but the command area.
     pub fn difference(&self) -> Option<String> {
         let (port, judge) = (&self.port, &self.judge);
         if port.state.status != judge.status {
@@ -56,12 +56,12 @@ impl Sides {
         list.first_other(self.port.store(place)).map(|word| format!("{name}, word {word}"))
     }
 
-    /// In the command area; a large one, which is looked at less often.
+    /// What differs in the command area, which is large and is looked at less often.
     pub fn other_area(&self) -> Option<String> {
         first_other("command area", self.port.command(), &self.judge.area, |word| *word)
     }
 
-    /// In the pixels that are read through the interface.
+    /// What differs in the pixels that are read through the interface.
     pub fn other_pixel(&self) -> Option<String> {
         PIXELS.iter().find_map(|(x, y)| {
             let expected = (0, self.judge.original.pixel(*x, *y));
@@ -75,14 +75,14 @@ pub fn other_answer(expected: u32, answer: u32) -> Option<String> {
     (answer != expected).then(|| format!("the answer is {answer}, not {expected}"))
 }
 
-/// In plane or depths.
+/// What differs in plane or depths.
 pub fn other_picture(port: &Port, original: &Vpu) -> Option<String> {
     first_other("plane", port.plane(), original.plane(), |byte| *byte as u32)
         .or_else(|| first_other("depth", port.depth(), original.depth(), |depth| *depth as u32))
         .or_else(|| first_other("float depth", port.depth_f32(), original.depth_f32(), |depth| bits(*depth)))
 }
 
-/// The first place where two memories differ. Nearly always there is none, so that is found out first, without a branch.
+/// The first place where two memories differ. Nearly always there is none, so this is tested first, without a branch.
 fn first_other<T>(name: &str, port: &[T], judge: &[T], word: impl Fn(&T) -> u32) -> Option<String> {
     let pairs = || port.iter().zip(judge).map(|(port, judge)| [word(port), word(judge)]);
     if pairs().fold(0, |other, [port, judge]| other | (port ^ judge)) == 0 {
@@ -92,7 +92,7 @@ fn first_other<T>(name: &str, port: &[T], judge: &[T], word: impl Fn(&T) -> u32)
     Some(format!("{name} {place}: {port:08x}, not {judge:08x}"))
 }
 
-/// Feeds these calls after a reset. The first difference ends them: the place of its call, and what it is.
+/// Feeds these calls after a reset, up to the first difference. Returns the place of its call, and what it is.
 pub fn run(
     sides: &mut Sides,
     start: Start,
@@ -115,7 +115,7 @@ fn fails(sides: &mut Sides, start: Start, words: Vec<u32>) -> bool {
     run(sides, start, &[words], &mut Watch::default()).is_some()
 }
 
-/// The calls up to the first difference; where one call shows it too, that call without the commands that do not matter.
+/// The calls up to the first difference. If one call shows it too: that call, without the commands that do not matter.
 pub fn smallest(sides: &mut Sides, start: Start, calls: &[Vec<u32>]) -> Vec<Vec<u32>> {
     if !fails(sides, start, calls.concat()) {
         return calls.to_vec();

@@ -8,10 +8,10 @@ use vpu_oracle::profiles::{Profile, PROFILES};
 use vpu_oracle::random::Random;
 use vpu_oracle::streams::Stream;
 
-/// How many turns of the profiles have one stream of `largest`, which takes as long as hundreds of others.
+/// One turn of the profiles in so many has a stream of `largest`, which takes as long as hundreds of others.
 const LARGEST_EVERY: u64 = 100;
 
-/// Calls of a stream, at most, where it is not cut into words.
+/// Calls of a stream, at most, if it is not cut into words.
 const MOST_CALLS: usize = 12;
 
 pub struct Case {
@@ -22,7 +22,7 @@ pub struct Case {
     pub random: Random,
 }
 
-/// Profile, seed and index determine the stream; seed and index the rest.
+/// Profile, seed and index determine the stream; seed and index determine the rest.
 pub fn case(seed: u64, index: u64) -> Case {
     let mut random = Random::named("compare", seed, index);
     let profile = profile(index);
@@ -48,7 +48,7 @@ fn profile(index: u64) -> &'static Profile {
     profile
 }
 
-/// Mostly enough; else each store on its own between none and a few uploads.
+/// Mostly enough words; otherwise each store by itself has room for between none and a few uploads.
 fn stores(profile: &Profile, random: &mut Random) -> [usize; 2] {
     if random.chance(70) {
         return [profile.store(); 2];

@@ -1,5 +1,5 @@
-//! Calls that are refused (rule 1.5): a wrong length (1), a malformed state (2), and 1 where both are wrong. State and memory have
-//! to stay as they are. Beside them, states and lengths at the ends of what is allowed.
+//! Calls that are refused (rule 1.5): a wrong length (1), a malformed state (2), and 1 if both are wrong. State and memory
+//! have to stay as they are. There are also states and lengths at the ends of what is allowed.
 
 use crate::port::{Lengths, Slot, State, MOST_STORE};
 use crate::sides::{other_answer, Sides};
@@ -12,7 +12,7 @@ const CLEAR: [u32; 4] = [0x0400_0003, 3, 0xffff_ffff, 0];
 const MEMORIES: [&str; 6] =
     ["plane", "depths", "float depths", "command area", "texture store", "model store"];
 
-/// Makes a state malformed, or well formed for another store than the one that is then lent; false where it cannot.
+/// Makes a state malformed, or well formed for another store than the one that is then lent; returns false if it cannot.
 type Spoil = fn(&mut State, &mut Lengths, &mut Random) -> bool;
 
 const MALFORMED: [(&str, Spoil); 15] = [
@@ -95,7 +95,7 @@ fn held(slots: &[Slot; 64]) -> usize {
     slots.iter().filter(|slot| slot.held != 0).count()
 }
 
-/// The slots of either kind, one with at least so many held where there is one, and how many are held.
+/// The slots of one kind, with at least so many held if there is such a kind, and how many are held.
 fn either<'a>(state: &'a mut State, least: usize, random: &mut Random) -> (&'a mut [Slot; 64], usize) {
     let [textures, models] = [held(&state.textures), held(&state.models)];
     if models < least || textures >= least && random.chance(50) {
@@ -105,7 +105,7 @@ fn either<'a>(state: &'a mut State, least: usize, random: &mut Random) -> (&'a m
     }
 }
 
-/// A slot that would be right one place before.
+/// A held slot that would be right one place before.
 fn hole(state: &mut State, _: &mut Lengths, random: &mut Random) -> bool {
     let [textures, models] = words_held(state);
     let height = if random.chance(50) { 1 } else { 0 };
@@ -128,7 +128,7 @@ fn equal_numbers(state: &mut State, _: &mut Lengths, random: &mut Random) -> boo
     true
 }
 
-/// In the last slot, so that no other area is out of place by it.
+/// A wrong side in the last slot, so that it puts no other area out of place.
 fn side(state: &mut State, _: &mut Lengths, random: &mut Random) -> bool {
     let last = |slots: &[Slot; 64]| slots.iter().rposition(|slot| slot.held == 1);
     let texture = last(&state.textures).map(|place| &mut state.textures[place]);
@@ -164,7 +164,7 @@ fn words_held(state: &State) -> [u32; 2] {
     [textures, state.models.iter().map(|slot| 28 * slot.width).sum()]
 }
 
-/// The store is lent one word short of what is held.
+/// A store is lent one word short of what is held.
 fn beyond(state: &mut State, lengths: &mut Lengths, random: &mut Random) -> bool {
     let place = random.below(2) as usize;
     let used = words_held(state)[place] as usize;
@@ -183,7 +183,7 @@ fn unused(state: &mut State, _: &mut Lengths, random: &mut Random) -> bool {
     true
 }
 
-/// At the end of what is well formed.
+/// Brings a state to the end of what is well formed.
 fn extreme(state: &mut State, lengths: &mut Lengths, random: &mut Random) {
     match random.below(5) {
         0 => state.matrices[random.below(48) as usize] = random.pick(&[f32::MAX, f32::MIN]),
@@ -217,7 +217,7 @@ pub struct Refused {
 }
 
 impl Refused {
-    /// Tries a call of some kind; what is wrong afterwards, if anything.
+    /// Tries a call of some kind; returns what is wrong afterwards, if anything.
     pub fn one(&mut self, sides: &mut Sides, random: &mut Random) -> Option<String> {
         let what = match random.below(8) {
             0 => self.reset(sides, random),
@@ -291,7 +291,7 @@ impl Refused {
     }
 }
 
-/// Feeds a state of the caller's; another answer than the expected one, or another state than the given one.
+/// Feeds a state of the caller's; returns an answer other than the expected one, or a state other than the given one.
 fn fed(sides: &mut Sides, state: State, words: &[u32], lengths: Lengths, expected: u32) -> Option<String> {
     let (answer, after) = sides.port.try_feed(state, words, lengths);
     other_answer(expected, answer).or_else(|| other_state(&after.words(), &state.words()))

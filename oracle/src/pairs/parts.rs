@@ -66,7 +66,7 @@ pub fn factors(r: &mut Random, (m, p): (u128, i32), (n, q): (u128, i32), e: i32)
     (scaled(r, m, at), scaled(r, n, e - at))
 }
 
-/// What m has to be multiplied by for 1 modulo 2^32, for an odd m.
+/// The inverse of an odd m modulo 2^32.
 pub fn inverse(m: u128) -> u32 {
     let m = m as u32;
     (0..5).fold(1, |i: u32, _| i.wrapping_mul(2u32.wrapping_sub(m.wrapping_mul(i))))

@@ -81,7 +81,7 @@ fn product_near_tie(r: &mut Random) -> Pair {
     let end = (1u32 << (places - 1)).wrapping_add_signed(r.between(-8, 8));
     let mut n = end.wrapping_mul(inverse(m)) % (1 << places);
     if n < 1 << 23 {
-        // Of 24 digits. Both ways leave the end as near to the half.
+        // This gives n 24 digits. Both ways leave the end as near to the half.
         n = if places == 23 { n + (1 << 23) } else { (1 << 24) - n };
     }
     let e = r.between(-175, 79);

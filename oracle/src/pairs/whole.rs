@@ -6,7 +6,7 @@ use crate::bits::ONE_NAN as NAN;
 pub const INF: u32 = 0x7f80_0000;
 pub const SIGN: u32 = 0x8000_0000;
 
-/// A result, and whether it was chosen of two that are equally near.
+/// A result, and whether it was chosen from two that are equally near.
 #[derive(Clone, Copy)]
 pub struct Rounded {
     pub bits: u32,
@@ -84,7 +84,7 @@ pub fn add(x: u32, y: u32) -> Rounded {
     let sign = negative(x);
     let same = sign == negative(y);
     if e - f > 100 {
-        // Then n·2^f is below 2^(e - 76): of y it matters only that it is there, and on which side.
+        // Then n·2^f is below 2^(e - 76): it matters only whether y is 0, and on which side it is.
         return match (n, same) {
             (0, _) => encode(sign, m << 50, e - 50, false),
             (_, true) => encode(sign, m << 50, e - 50, true),

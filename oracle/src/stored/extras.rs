@@ -1,4 +1,4 @@
-//! Streams that see a mistake of `oracle/mistakes` which hardly another stream sees.
+//! Streams that see a mistake of `oracle/mistakes` that hardly any other stream sees.
 
 use super::scene::{at, clear, coloured, draw, light, texture, wide, Scene};
 use crate::floats::{diagonal, identity, power_of_two};

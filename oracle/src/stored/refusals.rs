@@ -93,7 +93,7 @@ fn valid_command(name: &str) -> Command {
     found.unwrap_or_else(|| panic!("no command {name}")).1
 }
 
-/// The same with another word in one place.
+/// The valid command of this name with another word in one place.
 fn changed(name: &str, place: usize, word: u32) -> Command {
     let mut command = valid_command(name);
     command.payload[place] = word;
@@ -122,7 +122,7 @@ fn out_of_range() -> Vec<Named> {
     ]
 }
 
-/// In the last of the words that are tested, where the others have been taken.
+/// A word that is tested and is not finite: for most commands the last one, so that the others have been taken.
 fn not_finite() -> Vec<Named> {
     let (nan, infinity) = (0x7fc1_2345, 0xff80_0000);
     vec![

@@ -28,7 +28,7 @@ impl Scene {
         self
     }
 
-    /// Ends the call, so that a line shows what the machine is like here.
+    /// Ends the call, so that a line shows the machine at this point.
     pub fn seen(mut self) -> Self {
         self.calls.push(std::mem::take(&mut self.open).words);
         self
@@ -83,7 +83,7 @@ pub fn at(mut triangle: Triangle, positions: [[f32; 3]; 3]) -> Triangle {
     triangle
 }
 
-/// With the two outer matrices the identity, a matrix 2 that takes the corners (1,0,0), (0,1,0) and (0,0,1) to these.
+/// A matrix 2 that takes the corners (1,0,0), (0,1,0) and (0,0,1) to these, if the other two are the identity.
 pub fn columns(corners: [[f32; 4]; 3]) -> Command {
     let matrix = std::array::from_fn(|i| if i % 4 < 3 { corners[i % 4][i / 4] } else { 0.0 });
     Command::matrix(2, &matrix)
@@ -110,7 +110,7 @@ pub fn model(triangles: &[Triangle]) -> Command {
     Command::model(HELD, &records)
 }
 
-/// The draws of floats, each of which takes the same triangle; 1B with a model of its own.
+/// The draws of floats; each can take the same triangle. 1B brings a model of its own.
 pub fn draw(opcode: u8, mode: u32, triangle: &Triangle) -> Vec<Command> {
     vec![match opcode {
         0x14 => Command::transformed(triangle),

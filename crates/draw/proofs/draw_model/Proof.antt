@@ -21,7 +21,7 @@ long c = search needs
 abbrev start-of : tie.After-mode-and-number → tie.Start
 start-of c = c .before .before .before .before .before .before
 
--- the slot that is found, and where it stands
+-- the slot that is found, and where it is
 abbrev slot-of : tie.After-mode-and-number → Slot
 slot-of c = c .mode-and-number .result .slot
 

@@ -1,4 +1,4 @@
--- The verdict is the checks'; where it is done the lit corners are painted. Assumes nothing.
+-- The verdict is the checks'; if it is done, the lit corners are painted. Assumes nothing.
 use mathlib.Core.Path.{sym, _∙_}
 use Rattle.draw.proofs.Laws.{transformed-done, transformed-refused, shaded-stored}
 use borrow.Author.Needs.{needs}

@@ -1,4 +1,4 @@
--- The verdict is the words' own; where it is done the words' triangle may be drawn, and is. Assumes nothing.
+-- The verdict is the words' own; if it is done, the words' triangle may be drawn, and is. Assumes nothing.
 use mathlib.Core.Path.{_≡_, refl, sym, _∙_}
 use borrow.Author.Needs.{needs}
 use Rattle.verdict.specs.declared.Verdict.the-variants.{Done}

@@ -1,4 +1,4 @@
--- `ieee_test::main`: each array is as long as the one call that it is lent to is told (as in `show::main`). Assumes nothing.
+-- `ieee_test::main`: each array has the length that the one call that it is lent to is given (as in `show::main`). Assumes nothing.
 use mathlib.Core.Path.{sym}
 use Prim.Native.Nat.{ℕ}
 use lib.ListN.{length-replicate}

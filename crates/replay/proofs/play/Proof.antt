@@ -1,4 +1,4 @@
--- `replay::play`: each buffer is as long as `streams` is told, with level and type written out (as in `show::main`). Assumes nothing.
+-- `replay::play`: each buffer has the length that `streams` is given, with level and type written out (as in `show::main`). Assumes nothing.
 use mathlib.Core.Path.{sym}
 use Prim.Native.Nat.{ℕ}
 use lib.IntN.{ℤ}

@@ -1,4 +1,4 @@
--- `show::main`: every buffer is as long as its call is told. A fresh array's length is the library's law with level and type written out: where the
+-- `show::main`: every buffer has the length that its call is given. A fresh array's length is the library's law with level and type written out: if the
 -- checker has to find them, it counts the elements one by one, and its stack grows with the array. Later lengths are what the loans give back.
 -- Assumes nothing.
 use mathlib.Core.Path.{sym}

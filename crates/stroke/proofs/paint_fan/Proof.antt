@@ -21,7 +21,7 @@ Inv-loop plane₀ depth-f32₀ brush texels polygon first i₀ plane depth-f32 i
 abbrev μ-loop : tie.MeasureT-loop
 μ-loop plane₀ depth-f32₀ brush texels polygon first i₀ plane depth-f32 i = polygon .count - i
 
--- the array of the parameter has 28 elements, by what owning it tells
+-- the array of the parameter has 28 elements, by what owning it says
 fits : (c : tie.Start Inv-loop μ-loop) → c .args .t3 .count ≤ length (c .args .t3 .vertices)
 fits c =
     let long : length (c .args .t3 .vertices) ≡ 28 = simp length-map at (c .good .1 .1 .0 .1 .1 .0 .1 .0 .1) in

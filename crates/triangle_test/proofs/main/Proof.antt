@@ -1,4 +1,4 @@
--- `triangle_test::main`: each array is as long as the call that it is lent to is told (as in `show::main`). Assumes nothing.
+-- `triangle_test::main`: each array has the length that the call that it is lent to is given (as in `show::main`). Assumes nothing.
 use mathlib.Core.Path.{sym}
 use Prim.Native.Nat.{ℕ}
 use lib.IntN.{ℤ}

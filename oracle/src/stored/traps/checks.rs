@@ -26,15 +26,15 @@ fn bayer() -> Stored {
         .end()
 }
 
-/// 28 times 40000001 is 28 in 32 bits: one that wraps accepts this model, and draws it.
+/// 28 times 40000001 is 28 in 32 bits: a port that wraps accepts this model, and draws it.
 fn wrapping_count() -> Stored {
     let mut wrong = model(&[wide(0.5)]);
     wrong.payload[1] = 0x4000_0001;
     Scene::new("trap-09-28n-wraps").shows(texture()).shows(wrong).shows(Command::draw_model(HELD, 0)).end()
 }
 
-/// Bits stay through accepted commands, clears and empty calls: one that begins a call or a command with status 0, or that
-/// lets a clear reset it, differs.
+/// Bits stay through accepted commands, clears and empty calls: a port that begins a call or a command with status 0, or
+/// that lets a clear reset it, differs.
 fn status_kept() -> Stored {
     let unknown = Command { opcode: 0x03, payload: vec![1, 2, 3] };
     Scene::new("trap-10-status-kept")
@@ -50,7 +50,7 @@ fn status_kept() -> Stored {
         .end()
 }
 
-/// Twenty words, the second of which is the mode; nineteen without it, as the source's comment has it, are refused.
+/// There are twenty words, and the second is the mode. Nineteen without it, as the source's comment says, are refused.
 fn mode_word_of_18() -> Stored {
     mode_word("trap-13-18-mode-word", |mode| Command::textured(HELD, mode, &wide(0.5)))
 }

@@ -10,16 +10,16 @@ const DRAWS: [(u8, &str); 4] = [(0x14, "14"), (0x16, "16"), (0x18, "18"), (0x19,
 
 type Places = [[u32; 4]; 3];
 
-/// In or beside the plane z = w: of seven corners that the sides of the view leave, rounding puts every second one beyond it,
-/// and ten come of them.
+/// In or beside the plane z = w: the sides of the view leave seven corners. Rounding puts every second one beyond that
+/// plane, and the seven become ten.
 const TEN_CORNERS: Places = [
     [0xbf13_d365, 0x3dc0_f9cc, 0x3f67_e773, 0x3f67_e772],
     [0xc5dc_abe5, 0xc5e8_85f4, 0x4538_ab64, 0x4538_ab62],
     [0x44d5_0740, 0x44aa_f134, 0x4467_cf92, 0x4467_cf94],
 ];
 
-/// An edge from 2^126 to -2^126 with a small w: where it crosses a plane, rounding leaves an x 10^36 times as large as w, and
-/// times 320 that overflows.
+/// An edge from 2^126 to -2^126 with a small w: where it crosses a plane, rounding leaves an x 10^36 times as large as w.
+/// Times 320 that overflows.
 const FAR_ACROSS: Places = [
     [0x7e32_5d36, 0xb48a_1478, 0x35f6_a579, 0x3694_50b6],
     [0xfecf_c9b4, 0xb4e5_aad7, 0x360b_5a3c, 0x365c_afc2],
@@ -42,7 +42,7 @@ pub fn traps() -> Vec<Stored> {
     streams
 }
 
-/// A triangle whose corners come to stand at these places before the division by w, drawn as 14 and as 19.
+/// A triangle whose corners come to these places before the division by w, drawn as 14 and as 19.
 fn placed(name: &str, corners: [[f32; 4]; 3]) -> Stored {
     let triangle = of_columns(wide(0.5));
     Scene::new(name)
@@ -55,7 +55,7 @@ fn placed(name: &str, corners: [[f32; 4]; 3]) -> Stored {
         .end()
 }
 
-/// x + w overflows at a corner that is inside: one that refuses the triangle, or drops the corner, differs.
+/// x + w overflows at a corner that is inside: a port that refuses the triangle, or drops the corner, differs.
 fn infinite_distance() -> Stored {
     let far = f32::MAX;
     placed("trap-07-infinite", [[far, 0.0, 0.0, far], [-0.8, -0.7, 0.5, 1.0], [-0.6, 0.8, 0.5, 1.0]])
@@ -67,12 +67,12 @@ fn nan_parameter() -> Stored {
     placed("trap-07-nan", [[far, 0.0, 0.0, far], [-0.8, -0.7, 0.5, 1.0], [-1.5, 0.8, 0.5, 1.0]])
 }
 
-/// One with room for nine corners differs.
+/// A port with room for nine corners differs.
 fn ten_corners() -> Stored {
     placed("trap-07-ten-corners", floats(TEN_CORNERS))
 }
 
-/// `* 320 * 0.5` overflows where `* 160` does not: the textured rasteriser has the first, the other one the second.
+/// `* 320 * 0.5` overflows here, and `* 160` does not: the textured rasteriser has the first, the other one the second.
 fn far_out() -> [Stored; 2] {
     [placed("trap-17-times-320", floats(FAR_ACROSS)), placed("trap-17-times-240", floats(FAR_DOWN))]
 }
@@ -94,7 +94,7 @@ fn minus_zero((opcode, name): (u8, &str)) -> Stored {
         .end()
 }
 
-/// A depth that is NaN is stored, and later any depth passes over it, even 1: one that refuses or keeps NaN differs.
+/// A depth that is NaN is stored, and later any depth replaces it, even 1: a port that refuses or keeps NaN differs.
 fn nan_depth((opcode, name): (u8, &str)) -> Stored {
     let farthest = at(wide(0.5), [[-1.0, -1.0, 1.0], [1.0, -1.0, 1.0], [-1.0, 1.0, 1.0]]);
     let scene = Scene::new(&format!("trap-12-nan-depth-{name}")).then(texture());
@@ -105,7 +105,7 @@ fn nan_depth((opcode, name): (u8, &str)) -> Stored {
     scene.all(draw(opcode, 0, &farthest)).seen().end()
 }
 
-/// The first corner is cut away; the colour is still its own, not that of the first corner left.
+/// The first corner is cut away; the colour is still that of this corner, not of the first one left.
 fn first_corner_outside((opcode, name): (u8, &str)) -> Stored {
     let mut triangle: Triangle = wide(0.5);
     triangle[0].position = [-1.75, -0.5, 0.25];

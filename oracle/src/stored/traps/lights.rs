@@ -18,8 +18,8 @@ pub fn traps() -> Vec<Stored> {
     streams
 }
 
-/// Two and a half times as bright as white: mode 1 multiplies by 2.5, mode 2 by 1, mode 0 by nothing and leaves the alpha. One that clamps
-/// in mode 1, does not in mode 2, or lights mode 0, differs.
+/// Two and a half times as bright as white: mode 1 multiplies by 2.5, mode 2 by 1; mode 0 does not multiply and leaves the
+/// alpha. A port that clamps in mode 1, does not in mode 2, or lights mode 0, differs.
 fn too_bright(opcode: u8, name: &str, mode: u32) -> Stored {
     let grey = coloured(wide(0.5), 0xffff_ff90);
     Scene::new(&format!("trap-04-{name}-mode-{mode}"))
@@ -32,7 +32,7 @@ fn too_bright(opcode: u8, name: &str, mode: u32) -> Stored {
         .end()
 }
 
-/// Turned away from the eye's axis, with normals that say otherwise.
+/// Turned away from the eye's axis, with normals that point elsewhere.
 fn tilted() -> Triangle {
     let mut triangle = at(wide(0.0), [[-0.8, -0.7, 0.1], [0.9, -0.6, 0.4], [0.1, 0.8, 0.9]]);
     triangle[0].normal = [-1.0, 0.25, -0.5];
@@ -61,7 +61,7 @@ fn normals(opcode: u8, name: &str, mode: u32) -> Stored {
         .end()
 }
 
-/// With shading mode 0 the normalised sum of the three normals at the first corner, with 1 each corner for itself. The
+/// Shading mode 0 takes the normalised sum of the three normals at the first corner, mode 1 each corner by itself. The
 /// face's normal, the first corner's or the middle of the triangle give other colours.
 fn normals_of_16(name: &str, mode: u32) -> Stored {
     Scene::new(&format!("trap-05-16-{name}"))
@@ -81,8 +81,8 @@ fn one_by_one() -> Stored {
     of_terms("trap-06-one-by-one", &[half, large])
 }
 
-/// The last light is 2^23 - 2^23 + 0 + 0.25 from the left; from the right the 0.25 is lost. The first two cancel, and the 0.5
-/// of the first goes with them.
+/// The last light is 2^23 - 2^23 + 0 + 0.25 from the left; from the right the 0.25 is lost. The first two lights cancel, and
+/// the 0.5 of the first is lost with them.
 fn from_the_right() -> Stored {
     let terms = light(0, [33_554_432.0, 0.0, 0.0, 0.5], [0.0, 0.0, 4.0]);
     let back = light(1, [-33_554_432.0, 0.0, 0.0, 0.0], [0.0, 0.0, 4.0]);
@@ -103,8 +103,8 @@ fn of_terms(name: &str, lights: &[Command]) -> Stored {
         .end()
 }
 
-/// The light is a little behind the face and the eye before it, so that half-way between them is before it too: without the
-/// test that the face is lit at all there would be a highlight.
+/// The light is a little behind the face and the eye is before it, so half-way between them is before it too. Without the
+/// test that the face is lit at all, there would be a highlight.
 fn specular_behind() -> Stored {
     let mut triangle = coloured(wide(0.5), 0x8080_80ff);
     triangle.iter_mut().for_each(|corner| corner.normal = [-1.0, 0.0, 0.25]);
@@ -119,7 +119,7 @@ fn specular_behind() -> Stored {
         .end()
 }
 
-/// 14 keeps its colours while lighting is on, in both shading modes. One that lights it with any normal differs.
+/// 14 keeps its colours while lighting is on, in both shading modes. A port that lights it with any normal differs.
 fn unlit() -> Stored {
     Scene::new("trap-16-14-unlit")
         .all(two_lights())

@@ -17,7 +17,7 @@ pub fn traps() -> Vec<Stored> {
     streams
 }
 
-/// w overflows at the third corner, whose place on the screen is then the middle of it.
+/// w overflows at the third corner, which is then in the middle of the screen.
 fn overflowing() -> (Command, Triangle) {
     let mut matrix = identity();
     matrix[14] = f32::MAX;
@@ -25,7 +25,7 @@ fn overflowing() -> (Command, Triangle) {
     (Command::matrix(2, &matrix), triangle)
 }
 
-/// 14, 16 and 18 refuse; 19 and 1B draw. One that refuses always or never has another status and picture.
+/// 14, 16 and 18 refuse; 19 and 1B draw. A port that refuses always or never has another status and picture.
 fn overflow((opcode, name): (u8, &str)) -> Stored {
     let (matrix, triangle) = overflowing();
     Scene::new(&format!("trap-01-overflow-{name}"))
@@ -54,8 +54,8 @@ fn under_matrix(name: String, matrices: &[[f32; 16]; 3], opcode: u8) -> Stored {
         .end()
 }
 
-/// 16, 19 and 1B refuse, though lighting is off and the mode 0; 14 and 18 draw. One that looks only where light needs it,
-/// or that looks always, differs.
+/// 16, 19 and 1B refuse, though lighting is off and the mode is 0; 14 and 18 draw. A port that looks only if light needs
+/// it, or that looks always, differs.
 fn singular((opcode, name): (u8, &str)) -> Stored {
     let matrices = [diagonal(1.0, 1.0, 0.0, 1.0), identity(), identity()];
     under_matrix(format!("trap-02-singular-{name}"), &matrices, opcode)
@@ -90,8 +90,8 @@ fn view_times_model((opcode, name): (u8, &str)) -> Stored {
     under_matrix(format!("trap-02-order-{name}"), &matrices, opcode)
 }
 
-/// The depth is stored and the pixel is not: one that tests the denominator before it stores, or not at all, differs at once
-/// and again in the farther triangle, which is hidden.
+/// The depth is stored and the pixel is not: a port that tests the denominator before it stores, or not at all, differs at
+/// once and again in the farther triangle, which is hidden.
 fn depth_only(name: &str, exponent: i32) -> Stored {
     let w = power_of_two(exponent);
     Scene::new(name)

@@ -18,7 +18,7 @@ abbrev μ-loop : tie.MeasureT-loop
 μ-loop plane polygon count previous₀ previous-distance₀ output₀ n₀ i₀ previous previous-distance output n i =
     count - i
 
--- the array of the parameter has room for so many, by what owning it tells
+-- the array of the parameter has room for so many, by what owning it says
 full : (c : tie.Start Inv-loop μ-loop) → length (c .args .t1 .vertices) ≡ room
 full c = simp length-map at (c .good .0 .1 .1 .0 .1 .0 .1)
 

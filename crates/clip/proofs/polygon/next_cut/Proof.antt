@@ -20,7 +20,7 @@ Inv-loop plane polygon count stop₀ i₀ stop i =
 abbrev μ-loop : tie.MeasureT-loop
 μ-loop plane polygon count stop₀ i₀ stop i = count - i
 
--- the array of the parameter has room for so many, by what owning it tells
+-- the array of the parameter has room for so many, by what owning it says
 fits : (c : tie.Start Inv-loop μ-loop) → c .args .t1 .count ≤ length (c .args .t1 .vertices)
 fits c =
     let long : length (c .args .t1 .vertices) ≡ room = simp length-map at (c .good .0 .1 .1 .0 .1 .0 .1) in

@@ -1,4 +1,4 @@
--- Vertex by vertex; where one refuses, the corners are blank. Assumes nothing.
+-- Vertex by vertex; if one refuses, the corners are blank. Assumes nothing.
 use mathlib.Core.Path.{_∙_}
 use native.Mathlib.Omega.{arith}
 use borrow.Author.Needs.{needs}

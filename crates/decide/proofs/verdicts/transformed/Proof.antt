@@ -1,4 +1,4 @@
--- The matrix, the words, the positions; where one of them refuses, the corners are blank. Assumes nothing.
+-- The matrix, the words, the positions; if one of them refuses, the corners are blank. Assumes nothing.
 use mathlib.Core.Path.{_≡_, sym, _∙_}
 use mathlib.Core.Bool.{false}
 use Rattle.vector.specs.declared.normal.Inverse.the-variants.{Of}
@@ -13,7 +13,7 @@ use Rattle.decide.proofs.verdicts.transformed.Tie as tie
 abbrev start-of : tie.After-known-told → tie.Start
 start-of c = c .before .before .before .before .before
 
--- the matrix, where there is one
+-- the matrix, if there is one
 of : (c : tie.After-known-told) → normalMatrixOf (start-of c .args .m .now) (start-of c .args .has-normal) ≡ Of (c .before .inverse .given .0 .0)
 of c = sym (c .before .before .before .normal-matrix .ensures) ∙ c .before .inverse .given .1
 

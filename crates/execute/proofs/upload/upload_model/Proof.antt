@@ -1,4 +1,4 @@
--- Where the checks pass, sides and words are as `keep` asks; where they do not, nothing changes. Assumes nothing.
+-- If the checks pass, sides and words are as `keep` asks; if they do not, nothing changes. Assumes nothing.
 use mathlib.Core.Path.{_≡_, sym, _∙_}
 use mathlib.Core.List.{List}
 use Prim.Native.Nat.{ℕ}

@@ -1,4 +1,4 @@
--- Where the pixel is nearer both buffers change at it, else neither does. Assumes nothing.
+-- If the pixel is nearer, both buffers change at it, else neither does. Assumes nothing.
 use mathlib.Core.Path.{_≡_, refl}
 use mathlib.Core.Bool.{true, false}
 use Prim.Native.Nat.{_+_, _*_}

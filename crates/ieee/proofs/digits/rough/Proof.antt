@@ -1,4 +1,4 @@
--- `ieee::digits::rough` meets its contract. A quotient is at most a, so that no sum wraps. Of the guess nothing is claimed but its bound, which is tested. Assumes nothing.
+-- `ieee::digits::rough` meets its contract. A quotient is at most a, so that no sum wraps. Nothing is claimed about the guess but its bound, which is tested. Assumes nothing.
 use Prim.Native.Nat.{ℕ, _+_, _/_}
 use native.Mathlib.Nat.{div-le-self}
 use native.Mathlib.Omega.{arith}

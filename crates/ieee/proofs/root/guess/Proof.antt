@@ -1,4 +1,4 @@
--- `ieee::root::guess` is safe: no NaN's pattern is made or read, and nothing wraps. Of the guess nothing is claimed. Assumes nothing.
+-- `ieee::root::guess` is safe: no NaN's pattern is made or read, and nothing wraps. Nothing is claimed about the guess. Assumes nothing.
 use mathlib.Core.Bool.{not}
 use Prim.Native.Nat.{ℕ, _-_, _*_, _%_, _/_, _+_, _≤_, _<_}
 use native.Mathlib.Omega.{arith}

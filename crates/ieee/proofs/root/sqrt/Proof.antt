@@ -1,4 +1,4 @@
--- `ieee::root::sqrt` meets its contract: by cases on x, and by `root_bits` where x is a number above 0. Assumes nothing.
+-- `ieee::root::sqrt` meets its contract: by cases on x, and by `root_bits` if x is a number above 0. Assumes nothing.
 use mathlib.Core.Path.{_≡_, refl, sym, ap, subst, _∙_}
 use mathlib.Core.Bool.{Bool, true, false}
 use Prim.Native.Nat.{ℕ, zero, suc, _*_, _%_, _≤_, _<_}
@@ -64,7 +64,7 @@ float-from-bits-if2 : tie.Need-float-from-bits-if2
 unfolding nanBits
 float-from-bits-if2 c = tt
 
--- its pattern, where x is a number above 0
+-- its pattern, if x is a number above 0
 patterned : (c : tie.Then2) → (0 < toBits binary32 (c .before .before .args .x)) × (toBits binary32 (c .before .before .args .x) < 0x7f80_0000)
 patterned c =
     let s = c .before .before in

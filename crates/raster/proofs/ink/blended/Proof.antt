@@ -1,4 +1,4 @@
--- Nothing where the denominator is tiny, else the divided colour. Assumes nothing.
+-- Nothing if the denominator is tiny, else the divided colour. Assumes nothing.
 use mathlib.Core.Path.{ap, sym, _∙_}
 use Rattle.ieee.specs.Range.{tinyOf}
 use Rattle.raster.specs.Ink.{shadeOf}

@@ -1,4 +1,4 @@
--- Where the depth passes both buffers change at the pixel, else neither does. Assumes nothing.
+-- If the depth passes, both buffers change at the pixel, else neither does. Assumes nothing.
 use mathlib.Core.Path.{_≡_, refl, sym, ap, _∙_}
 use Prim.Native.Nat.{_+_, _*_}
 use native.Mathlib.Omega.{arith}

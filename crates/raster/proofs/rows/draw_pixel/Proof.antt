@@ -1,4 +1,4 @@
--- Each edge along the row is the edge at the pixel, and the pixel is covered where it is inside them. Assumes nothing.
+-- Each edge along the row is the edge at the pixel, and the pixel is covered if it is inside them. Assumes nothing.
 use mathlib.Core.Path.{_≡_, refl}
 use mathlib.Core.Bool.{Bool}
 use Prim.Native.Nat.{_+_, _*_}

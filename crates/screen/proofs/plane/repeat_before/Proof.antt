@@ -1,4 +1,4 @@
--- The invariant: up to i the plane repeats what stood before the start. Assumes nothing.
+-- The invariant: up to i the plane repeats what was before the start. Assumes nothing.
 use mathlib.Core.Path.{_≡_, refl}
 use Prim.Native.Nat.{_-_, _<_, _≤_}
 use native.Mathlib.Omega.{arith}

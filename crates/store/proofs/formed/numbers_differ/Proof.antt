@@ -1,4 +1,4 @@
--- `store::formed::numbers_differ` meets its contract. The invariant: `ok` is the test of the slots from index i on, and where a mark is not set none of them has the number.
+-- `store::formed::numbers_differ` meets its contract. The invariant: `ok` is the test of the slots from index i on, and if the mark of a number is not set, none of them has it.
 -- Assumes nothing.
 use Prim.Native.Nat.{ℕ, _+_, _-_, _%_, _≤_, _<_}
 use mathlib.Core.Path.{_≡_, refl, sym, ap, _∙_}

@@ -1,4 +1,4 @@
--- `store::formed::slots_ok` meets its contract: it is both tests, and where the first slot is not held there are no numbers.
+-- `store::formed::slots_ok` meets its contract: it is both tests, and if the first slot is not held, there are no numbers.
 -- Assumes nothing.
 use mathlib.Core.Path.{_≡_, sym, ap, _∙_}
 use mathlib.Core.Bool.{true, false, and-true}

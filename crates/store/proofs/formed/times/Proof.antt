@@ -1,4 +1,4 @@
--- `store::formed::times` meets its contract. The invariant: what has been counted, with what stands from index i on, is all. Assumes nothing.
+-- `store::formed::times` meets its contract. The invariant: what has been counted, with what there is from index i on, is all. Assumes nothing.
 use Prim.Native.Nat.{_+_, _-_, _≤_, _<_}
 use mathlib.Core.Path.{_≡_}
 use mathlib.Core.Logic.{⊎-elim}

@@ -1,4 +1,4 @@
--- `store::words::move_down` meets its contract. After i turns the store is the paste of i of the words that stood from `from` on: what is read next lies beyond what has been written.
+-- `store::words::move_down` meets its contract. After i turns the store is the paste of i of the words that were from `from` on: what is read next lies beyond what has been written.
 -- Assumes nothing.
 use Prim.Native.Nat.{ℕ, _-_, _≤_}
 use mathlib.Core.Path.{_≡_, refl, ap, _∙_}

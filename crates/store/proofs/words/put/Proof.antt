@@ -1,4 +1,4 @@
--- `store::words::put` meets its contract: where nothing is under the number by `put-new`, else by `spot` and `put-old`. Assumes nothing.
+-- `store::words::put` meets its contract: if nothing is under the number, by `put-new`, else by `spot` and `put-old`. Assumes nothing.
 use Prim.Native.Nat.{_≤_}
 use mathlib.Core.Path.{_≡_, sym, _∙_}
 use mathlib.Core.List.{_++_}

@@ -1,4 +1,4 @@
--- `store::words::put_last` meets its contract: a paste of the words, and where an old end lies further, one of zeros.
+-- `store::words::put_last` meets its contract: a paste of the words, and if an old end lies further, one of zeros.
 -- Assumes nothing.
 use mathlib.Core.Path.{_∙_}
 use native.Mathlib.Omega.{arith}

@@ -1,4 +1,4 @@
--- The loop's invariant: what is left of the words, run on the machine at hand, is the whole run. A turn is a word, and a command where one is complete. Assumes nothing.
+-- The loop's invariant: what is left of the words, run on the machine at hand, is the whole run. A turn is a word, and a command if one is complete. Assumes nothing.
 use Prim.Native.Nat.{_-_}
 use mathlib.Core.Path.{_≡_, refl, sym, _∙_}
 use native.Mathlib.Omega.{arith}
@@ -77,7 +77,7 @@ ready-requires c κs = tt
 command-of-requires : tie.Need-command-of-requires Inv-loop μ-loop
 command-of-requires c κs = tt
 
--- the turn, where the command sets
+-- the turn, if the command sets
 enum-known-setting : tie.Need-enum-known-setting Inv-loop μ-loop
 enum-known-setting c = search needs
 
@@ -113,7 +113,7 @@ loop-again c =
     (sets-blank asBox _ _ (held-is (i .before .loop .inv) (i .loop-test .taken) refl (t .take-word .ensures .0) (t .take-word .ensures .1) (b .with-frame .ensures) (g .command-of .ensures) (x .setting .given .1)))
     (y .after-set .ensures _ _) refl refl (set-textures b) (set-models b) (c .frame-of2 .ensures)
 
--- the turn, where it loads
+-- the turn, if it loads
 enum-known-kind : tie.Need-enum-known-kind Inv-loop μ-loop
 enum-known-kind c = search needs
 
@@ -154,7 +154,7 @@ loop-again-2 c =
     (loads-blank asBox _ _ (held-is (i .before .loop .inv) (i .loop-test .taken) refl (t .take-word .ensures .0) (t .take-word .ensures .1) (b .with-frame2 .ensures) (g .command-of .ensures) (x .kind .given .1)))
     (y .after-load .ensures) (kept .0) (kept .1 .0) (load-textures b) (load-models b) (c .frame-of3 .ensures)
 
--- the turn, where it paints and the state stays
+-- the turn, if it paints and the state stays
 enum-known-d : tie.Need-enum-known-d Inv-loop μ-loop
 enum-known-d c = search needs
 
@@ -182,7 +182,7 @@ loop-again-3 c =
     let kept = y .painted .kept .1 .1 .1 in
     held-painted (i .before .loop .inv) (i .loop-test .taken) refl (t .take-word .ensures .0) (t .take-word .ensures .1) (sym (complete g .ready .ensures) ∙ g .before .if1 .taken) (y .painted .ensures) (kept .0) (kept .1 .0) (kept .1 .1 .0)
 
--- the turn, where it is unknown
+-- the turn, if it is unknown
 enum-told : tie.Need-enum-told Inv-loop μ-loop
 enum-told c = search needs
 
@@ -203,7 +203,7 @@ loop-again-4 c =
     let i = turn t in
     held-unknown (i .before .loop .inv) (i .loop-test .taken) refl (t .take-word .ensures .0) (t .take-word .ensures .1) (sym (complete g .ready .ensures) ∙ g .before .if1 .taken) (sym (g .command-of .ensures) ∙ x .enum-told .given .1) (c .before .unknown .ensures) (c .ended .ensures)
 
--- the turn, where a word completes no command
+-- the turn, if a word completes no command
 abbrev begun : tie.Else1 Inv-loop μ-loop → tie.In-loop Inv-loop μ-loop
 begun c = turn (took (c .before))
 
