@@ -2,11 +2,11 @@
 use mathlib.Core.Path.{_≡_, refl}
 use mathlib.Core.Logic.{_⊎_, inl, inr}
 use Prim.Native.Nat.{ℕ, _*_, _^_, _<_}
-use native.Mathlib.Nat.{lt-irrefl}
+use native.Mathlib.Nat.{lt-irrefl, not-le-of-lt}
 use native.Mathlib.Omega.{arith}
 use lib.Dec.{lit<}
 use lib.Ieee.{binary32, size}
-use Rattle.rounding.specs.Rounding.{Held, Rounded, overflowsFrom}
+use Rattle.rounding.specs.Rounding.{Held, Rounded, away, overflowsFrom}
 use Rattle.rounding.proofs.Rounding.{grid-rounded, held-under}
 
 -- the smallest subnormal, the largest value, and past it none
@@ -52,6 +52,15 @@ tie-not-up r = one-not-none (r .even (0x100_0000 * 2 ^ 149) even-below (differ (
 pub tie-not-down : Rounded binary32 0x100_0003 1 (0x100_0002 * 2 ^ 149) → ⊥
 unfolding size
 tie-not-down r = one-not-none (r .even (0x100_0004 * 2 ^ 149) even-above (differ (0x100_0004 * 2 ^ 149) (0x100_0002 * 2 ^ 149) (inr (lit< tt))) refl)
+
+-- 2 ^ 24 + 1.5 is not cut to 2 ^ 24: the value above it is nearer. By numbers alone too
+odd-between : Held binary32 (0x100_0002 * 2 ^ 149)
+odd-between = record { digits = 0x80_0001; shift = 150; few = lit< tt; in-range = lit< tt; is = refl }
+
+pub not-cut : Rounded binary32 0x200_0003 2 (0x100_0000 * 2 ^ 149) → ⊥
+not-cut r =
+    let nearer : away binary32 0x200_0003 2 (0x100_0002 * 2 ^ 149) < away binary32 0x200_0003 2 (0x100_0000 * 2 ^ 149) = lit< tt in
+    not-le-of-lt nearer (r .nearest (0x100_0002 * 2 ^ 149) odd-between)
 
 -- half of the smallest value is a tie too: to zero
 pub underflow : Rounded binary32 1 (2 ^ 150) 0
