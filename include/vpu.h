@@ -59,7 +59,7 @@ extern "C" {
 
 #define VPU_STATUS_ZERO_OPCODE 0x04u /* bit 2: a header with opcode 0 was dropped */
 #define VPU_STATUS_REFUSED     0x08u /* bit 3: a command or a header was refused */
-#define VPU_STATUS_NO_ROOM     0x40u /* bit 6: an upload had no slot or no words left in its store */
+#define VPU_STATUS_NO_ROOM     0x40u /* bit 6: an upload had no slot, or no words beside the other numbers' */
 
 /* ---- the state ---- */
 

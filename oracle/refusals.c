@@ -1,14 +1,10 @@
 // What only a host with memory of its own can lend: stores of the greatest length and of one word more, a command area
 // of one word more, and switches that are neither 0 nor 1. A call that is refused must answer the right number and leave
 // the state and all memory as they were. Linked with the archive of the crate vpu_c; oracle/refusals builds it.
-#include <stdbool.h>
 #include <stdio.h>
-#include <stdlib.h>
-#include <string.h>
 
-#include "vpu.h"
+#include "lent.h"
 
-typedef vpu_light light;
 typedef vpu_slot slot;
 typedef vpu_state state;
 typedef vpu_fed fed;
@@ -38,8 +34,6 @@ static const lengths GREATEST = {PLANE, COMMAND, MOST, MOST};
 static const uint32_t WORDS[] = {0, 0x04000003, 3, 0x12345678, 0, 0x17000004, 900, 1, 1, 0xf0a51234, 0x1a00001e, 900,
                                  1, 1, 1, 1, 1, 1, 1, 1, 1, 1, 1, 1, 1, 1, 1, 1, 1, 1, 1, 1, 1, 1, 1, 1, 1, 1, 1, 1, 1};
 
-static const unsigned char MARK = 90;
-
 static fed reset(lengths n) {
     return vpu_reset(memory.plane, n.plane, memory.depth, PIXELS, memory.depth_f32, PIXELS, memory.command, n.command,
                      memory.textures, n.textures, memory.models, n.models);
@@ -61,23 +55,10 @@ static void mark(size_t words) {
     memset(memory.models, MARK, words * sizeof(uint32_t));
 }
 
-static bool marked(const void *part, size_t bytes) {
-    const unsigned char *at = part;
-    return bytes == 0 || (*at == MARK && memcmp(at, at + 1, bytes - 1) == 0);
-}
-
 static bool untouched(size_t words) {
     return marked(memory.plane, sizeof memory.plane) && marked(memory.depth, sizeof memory.depth) &&
            marked(memory.depth_f32, sizeof memory.depth_f32) && marked(memory.command, sizeof memory.command) &&
            marked(memory.textures, words * sizeof(uint32_t)) && marked(memory.models, words * sizeof(uint32_t));
-}
-
-// Field by field: the padding between the fields does not count.
-static bool same_lights(const light *a, const light *b) {
-    for (int i = 0; i < 8; i++) {
-        if (a[i].enabled != b[i].enabled || memcmp(a[i].ambient, b[i].ambient, 15 * sizeof(float)) != 0) return false;
-    }
-    return true;
 }
 
 static bool same_slots(const slot *a, const slot *b) {
@@ -88,10 +69,8 @@ static bool same_slots(const slot *a, const slot *b) {
 }
 
 static bool same(const state *a, const state *b) {
-    return memcmp(a->matrices, b->matrices, sizeof a->matrices) == 0 && a->shading_mode == b->shading_mode &&
-           a->lighting_enabled == b->lighting_enabled && same_lights(a->lights, b->lights) &&
-           same_slots(a->textures, b->textures) && same_slots(a->models, b->models) && a->opcode == b->opcode &&
-           a->gathered == b->gathered && a->wanted == b->wanted && a->status == b->status;
+    return same_settings(a, b) && same_slots(a->textures, b->textures) && same_slots(a->models, b->models) &&
+           a->opcode == b->opcode && a->gathered == b->gathered && a->wanted == b->wanted && a->status == b->status;
 }
 
 static int wrong = 0;

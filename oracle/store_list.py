@@ -25,13 +25,12 @@ class Store:
     def upload(self, number, width, height, words):
         """0 taken, 1 no slot, 2 no words."""
         used = sum(len(entry[3]) for entry in self.held)
-        known = any(entry[0] == number for entry in self.held)
-        if not known and len(self.held) == 64:
+        others = [entry for entry in self.held if entry[0] != number]
+        if len(others) == 64:
             return 1
-        if used + len(words) > self.size:
+        if sum(len(entry[3]) for entry in others) + len(words) > self.size:
             return 2
-        self.held = [entry for entry in self.held if entry[0] != number]
-        self.held.append((number, width, height, words))
+        self.held = others + [(number, width, height, words)]
         flat = [word for entry in self.held for word in entry[3]]
         self.memory[:len(flat)] = flat
         for i in range(len(flat), used):
@@ -76,8 +75,8 @@ class Log:
 
 
 def sequences(log):
-    # case 12: stores of 4 and of 6 words, two 2 x 2 textures, the first sent again
-    for size in (4, 5, 6):
+    # case 12: stores of 3 to 6 words, two 2 x 2 textures, the first sent again
+    for size in (3, 4, 5, 6):
         log.begin(TEXTURE, size)
         for number in (1, 2, 1):
             log.send(number, 2, 2)
@@ -99,6 +98,8 @@ def sequences(log):
     log.send(1000, 1, 2)
     log.send(1063, 2, 2)
     log.send(1031, 9, 9)
+    log.send(1031, 2, 6)
+    log.send(1031, 2, 7)
     log.send(1063, 1, 1)
     # 64 held and the store exactly full
     log.begin(TEXTURE, 64)
@@ -119,6 +120,17 @@ def sequences(log):
                 log.send(number, 4, 4)
             log.send(target, width, height)
             log.send(target, 1, 1)
+    # a full store: sent again as large as there is room, one word larger, smaller, and larger again
+    for target in (1, 2, 3):
+        log.begin(TEXTURE, 24)
+        for number in (1, 2, 3):
+            log.send(number, 4, 4)
+        for height in (8, 9, 3, 8, 9):
+            log.send(target, 2, height)
+        log.send(4, 1, 1)
+    log.begin(MODEL, 84)
+    for number, count in ((1, 1), (2, 2), (1, 1), (1, 2), (2, 1), (1, 2), (1, 3), (3, 1), (2, 2), (2, 1)):
+        log.send(number, count)
     # models
     log.begin(MODEL, 140)
     for number, count in ((1, 1), (2, 2), (1, 2), (3, 1), (2, 1), (3, 2), (4, 1), (2, 1)):

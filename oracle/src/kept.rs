@@ -26,8 +26,9 @@ impl List {
         self.held.iter().find(|upload| upload.number == number)
     }
 
-    pub fn in_use(&self) -> usize {
-        self.held.iter().map(|upload| upload.words.len()).sum()
+    /// Words of the uploads under any other number: one under this number would go.
+    fn beside(&self, number: u32) -> usize {
+        self.held.iter().filter(|upload| upload.number != number).map(|upload| upload.words.len()).sum()
     }
 
     /// Why an upload of so many words under this number has no room, if it has none.
@@ -35,7 +36,7 @@ impl List {
         if self.find(number).is_none() && self.held.len() == MOST_HELD {
             return Some(Reason::NoSlot);
         }
-        (self.in_use() + words > self.room).then_some(Reason::NoWords)
+        (self.beside(number) + words > self.room).then_some(Reason::NoWords)
     }
 
     pub fn put(&mut self, upload: Upload) {

@@ -11,7 +11,7 @@ pub type Step = fn(&mut Maker);
 pub struct Profile {
     pub name: &'static str,
     pub about: &'static str,
-    /// No flat coordinate beyond 8192 either way, and never more than 64 numbers held.
+    /// No flat coordinate beyond 8192 either way, never more than 64 numbers held, and room for every upload.
     pub inside_domain: bool,
     step: Step,
     steps: u32,
@@ -26,7 +26,7 @@ const fn outside(profile: Profile) -> Profile {
 }
 
 #[rustfmt::skip]
-pub static PROFILES: [Profile; 22] = [
+pub static PROFILES: [Profile; 24] = [
     profile("clear", steps::clears, 14,
         "clears with every flag value, known or not, between draws"),
     profile("settings", steps::settings, 20,
@@ -69,6 +69,10 @@ pub static PROFILES: [Profile; 22] = [
         "a 256 by 200 texture and a model of 700 triangles"),
     profile("full", steps::full, 1,
         "64 textures and 64 models, as many as the port holds, some of them sent again"),
+    profile("resend", steps::resend, 1,
+        "stores filled to the last word; uploads sent again, as large as there is room"),
+    outside(profile("overfull", steps::overfull, 1,
+        "the same, with uploads that are one word or one triangle too large")),
     outside(profile("crowded", steps::crowded, 1,
         "70 textures and 70 models, more than the port holds")),
 ];
@@ -83,12 +87,12 @@ pub fn named(name: &str) -> Result<Vec<&'static Profile>, String> {
 }
 
 impl Profile {
-    /// Words that either store needs, at most: an old upload counts beside the new one.
+    /// Words of either store: more than the profile needs, or, if it fills them, exactly as many.
     pub fn store(&self) -> usize {
-        if self.name == "largest" {
-            1_200_000
-        } else {
-            65_536
+        match self.name {
+            "largest" => 1_200_000,
+            "resend" | "overfull" => steps::ROOM as usize,
+            _ => 65_536,
         }
     }
 

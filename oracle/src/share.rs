@@ -33,7 +33,7 @@ impl Count {
 
 type Counts = BTreeMap<u8, Count>;
 
-/// The most that a stream asks of the stores: words in use before an upload plus its own, and numbers held.
+/// The most that a stream asks of the stores: an upload's words with those of all other numbers, and numbers held.
 #[derive(Default)]
 struct Needs {
     texture_words: usize,
@@ -155,18 +155,24 @@ impl Tally {
 impl Needs {
     fn texture(&mut self, vpu: &Vpu, new_words: usize) {
         let numbers = vpu.texture_numbers();
-        let held = numbers.iter().filter_map(|number| vpu.texture(*number));
-        let in_use: usize = held.map(|(width, height, _)| (width * height).div_ceil(2)).sum();
-        self.texture_words = self.texture_words.max(in_use + new_words);
+        let others = others(&numbers, vpu.gathered()).filter_map(|number| vpu.texture(number));
+        let beside: usize = others.map(|(width, height, _)| (width * height).div_ceil(2)).sum();
+        self.texture_words = self.texture_words.max(beside + new_words);
         self.textures = self.textures.max(held_after(&numbers, vpu.gathered()));
     }
 
     fn model(&mut self, vpu: &Vpu, new_words: usize) {
         let numbers = vpu.model_numbers();
-        let in_use: usize = numbers.iter().filter_map(|number| vpu.model(*number)).map(<[u32]>::len).sum();
-        self.model_words = self.model_words.max(in_use + new_words);
+        let others = others(&numbers, vpu.gathered()).filter_map(|number| vpu.model(number));
+        self.model_words = self.model_words.max(others.map(<[u32]>::len).sum::<usize>() + new_words);
         self.models = self.models.max(held_after(&numbers, vpu.gathered()));
     }
+}
+
+/// The numbers that the upload with this payload does not replace.
+fn others<'a>(numbers: &'a [u32], payload: &[u32]) -> impl Iterator<Item = u32> + 'a {
+    let own = payload.first().copied();
+    numbers.iter().copied().filter(move |number| Some(*number) != own)
 }
 
 /// How many numbers are held when the upload with this payload is accepted.

@@ -1,6 +1,6 @@
 -- What demand 3 says of the plain machine: a draw gets the last accepted upload under its number and is refused for want of one exactly if there is none; there is no room exactly by the store rule over the history. Assumes nothing.
 use Prim.Native.Nat.{ℕ, _+_, _≤_}
-use mathlib.Core.Path.{_≡_, refl, ap}
+use mathlib.Core.Path.{_≡_, refl, sym, ap, _∙_}
 use mathlib.Core.Bool.{Bool, true, false, cond, not, _&&_, _||_}
 use mathlib.Core.Option.{Option, none, some}
 use mathlib.Core.List.{List, [], _∷_, map}
@@ -21,8 +21,9 @@ use Rattle.store.specs.declared.Kind.{Kind}
 use Rattle.store.specs.declared.Kind.the-variants.{Texture, Model}
 use Rattle.store.specs.declared.Room.{Room}
 use Rattle.store.specs.declared.Room.the-variants.{Fits, NoSlot, NoWords}
-use Rattle.store.specs.Uploads.{Whole, Card, find, holds, total, room, isSome}
+use Rattle.store.specs.Uploads.{Whole, Card, cards, find, holds, without, live, total, room, isSome}
 use Rattle.store.specs.Slots.{isFits}
+use Rattle.store.proofs.Laws.{cards-without, live-without}
 use Rattle.decide.specs.Verdicts.{checkedVerdict, texturedVerdict, recordsVerdict}
 use Rattle.draw.specs.Draws.{texturedStrokes, recordsStrokes}
 use Rattle.execute.specs.Paints as paints
@@ -154,11 +155,15 @@ others-low size c e =
       is = rw e;
     }
 
--- the rule, spelt out: the number is new and 64 are held, or words in use plus the new words exceed the store
-pub room-says : (size : ℕ) (cs : List Card) (n new : ℕ) → isFits (room size cs n new) ≡ not ((not (holds n cs) && leb 64 (length cs)) || ltb size (total cs + new))
-room-says size cs n new = go (not (holds n cs) && leb 64 (length cs)) (ltb size (total cs + new))
+-- the rule, spelt out: the number is new and 64 are held, or the other numbers' words plus the new ones exceed the store
+pub room-says : (size : ℕ) (cs : List Card) (n new : ℕ) → isFits (room size cs n new) ≡ not ((not (holds n cs) && leb 64 (length cs)) || ltb size (total (without n cs) + new))
+room-says size cs n new = go (not (holds n cs) && leb 64 (length cs)) (ltb size (total (without n cs) + new))
   where
     go : (a b : Bool) → isFits (cond a NoSlot (cond b NoWords Fits)) ≡ not (a || b)
     go true b = refl
     go false true = refl
     go false false = refl
+
+-- those words over a history: what was ever accepted under the number itself counts nothing
+pub others-words : (n : ℕ) (h : List Whole) → total (without n (cards (live h))) ≡ total (cards (live (without n h)))
+others-words n h = ap total (sym (cards-without n (live h)) ∙ ap cards (live-without n h))

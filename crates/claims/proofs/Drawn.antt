@@ -98,16 +98,16 @@ strokes-are : (w : ℕ) → texturedStrokes settings.fresh triangle false (some 
 unfolding texturedStrokes heldStrokes
 strokes-are w = rw checked
 
-module _ (t u : ℕ) (p : Picture) (room : 2 ≤ t) where
+module _ (t u : ℕ) (p : Picture) (room : 1 ≤ t) where
   once-left : (a : ℕ) → run (asPast (given t u)) (from p) (upload 1 a ++ draw) .picture ≡ paintsOn (map paints.stroked (texturedStrokes settings.fresh triangle false (some (wholeOf 1 1 1 (a ∷ []))))) p
   unfolding run word header gather execute told commandOf textureVerdict paintedBy texturedPainted paintsOn
-  once-left a = rw (le-ltb t 1 (omega arith))
+  once-left a = rw (le-ltb t 1 room)
 
   twice-left : (a b : ℕ) → run (asPast (given t u)) (from p) (upload 1 a ++ (upload 1 b ++ draw)) .picture ≡ paintsOn (map paints.stroked (texturedStrokes settings.fresh triangle false (some (wholeOf 1 1 1 (b ∷ []))))) p
   unfolding run word header gather execute told commandOf textureVerdict paintedBy texturedPainted paintsOn
-  twice-left a b = rw (le-ltb t 1 (omega arith), le-ltb t 2 room)
+  twice-left a b = rw (le-ltb t 1 room, le-ltb t 1 room)
 
--- ---- after a reset, with room for two words
+-- ---- after a reset, with room for one word
 picture-alpha : (w : ℕ) (m : Machine) → m .picture ≡ paintsOn (map paints.stroked (texturedStrokes settings.fresh triangle false (some (wholeOf 1 1 1 (w ∷ []))))) (plainStart .picture)
     → getD (m .picture .plane) 3 0 ≡ alphaOf w
 unfolding paintsOn
@@ -116,11 +116,11 @@ picture-alpha w m e =
     (stroke-alpha w (plainStart .picture) (length-replicate {A = ℕ} planeBytes 0) (getD-replicate pixels 0 (ofBits binary32 0x3f80_0000) nan (omega arith)))
 
 -- the alpha at (0, 0) is the texture's
-pub shows-one : (a : ℕ) → InStore (λ size. 2 ≤ size) (upload 1 a ++ draw) (λ m. getD (m .picture .plane) 3 0 ≡ alphaOf a)
+pub shows-one : (a : ℕ) → InStore (λ size. 1 ≤ size) (upload 1 a ++ draw) (λ m. getD (m .picture .plane) 3 0 ≡ alphaOf a)
 shows-one a = by-plain (λ t u r m h. picture-alpha a m (h .picture ∙ once-left t u _ r a))
 
 -- and if there are two, that of the last accepted one
-pub shows-last : (a b : ℕ) → InStore (λ size. 2 ≤ size) (upload 1 a ++ (upload 1 b ++ draw)) (λ m. getD (m .picture .plane) 3 0 ≡ alphaOf b)
+pub shows-last : (a b : ℕ) → InStore (λ size. 1 ≤ size) (upload 1 a ++ (upload 1 b ++ draw)) (λ m. getD (m .picture .plane) 3 0 ≡ alphaOf b)
 shows-last a b = by-plain (λ t u r m h. picture-alpha b m (h .picture ∙ twice-left t u _ r a b))
 
 -- the alphas of the nibbles F and 5

@@ -39,9 +39,9 @@ use Rattle.claims.proofs.Table.{thirteen}
 use Rattle.claims.proofs.Drawn.{shows-one, shows-last, alphas}
 
 -- memory of right lengths there is
-somewhere : {Z : Type 0} → ((P : List ℕ) (D : List ℤ) (F : List Float) (C T M : List ℕ) → Right P D F C T M → 2 ≤ length T → Z) → Z
+somewhere : {Z : Type 0} → ((P : List ℕ) (D : List ℤ) (F : List Float) (C T M : List ℕ) → Right P D F C T M → 1 ≤ length T → Z) → Z
 somewhere h =
-    h (replicate planeBytes 0) (farInts pixels) (farFloats pixels) (replicate mostPayload 0) (0 ∷ 0 ∷ []) []
+    h (replicate planeBytes 0) (farInts pixels) (farFloats pixels) (replicate mostPayload 0) (0 ∷ []) []
     (record {
       of-plane = length-replicate {A = ℕ} planeBytes 0;
       of-depth = length-replicate pixels (pos 2147483647);
@@ -105,18 +105,18 @@ module _ (f : Feeder) (meets : Meets f) where
 
   -- ---- always answering 1 or 2: against rule 1.5
   pub never-done : NeverDone f → ⊥
-  never-done h = somewhere (λ P D F C T M right two. never P D F C T M right h)
+  never-done h = somewhere (λ P D F C T M right one. never P D F C T M right h)
 
   -- ---- one constant plane: against demand 2, by rule 9.4
   pub one-plane : (Q : List ℕ) → OnePlane Q f → ⊥
-  one-plane Q h = somewhere (λ P D F C T M right two. two-planes P D F C T M right Q h)
+  one-plane Q h = somewhere (λ P D F C T M right one. two-planes P D F C T M right Q h)
 
   -- ---- changing nothing: against demand 2, by rule 9.3
   pub nothing-changed : NothingChanged f → ⊥
-  nothing-changed h = somewhere (λ P D F C T M right two. some-change P D F C T M right h)
+  nothing-changed h = somewhere (λ P D F C T M right one. some-change P D F C T M right h)
 
   -- ---- storing the first upload and pretending for later ones: against demand 3, since a draw must show the last accepted upload
-  module _ (P : List ℕ) (D : List ℤ) (F : List Float) (C T M : List ℕ) (done : reset P D F C T M .answer ≡ 0) (two : 2 ≤ length T) where
+  module _ (P : List ℕ) (D : List ℤ) (F : List Float) (C T M : List ℕ) (done : reset P D F C T M .answer ≡ 0) (one : 1 ≤ length T) where
     abbrev n : Machine
     n = reset P D F C T M .machine
 
@@ -140,14 +140,14 @@ module _ (f : Feeder) (meets : Meets f) where
       none-held = λ k i. ap (λ (l : Look). l k i) (alike size .look-same _ _ (kept [])) ∙ nothing-held k i;
     }
 
-    -- and there is room for two words
+    -- and there is room for one word, twice
     room-one : (w : ℕ) → HasRoom (fedBy f n []) 1 w
     unfolding run
-    room-one w = alike size .room-same _ _ (textureIn (1 ∷ 1 ∷ 1 ∷ w ∷ [])) (kept []) ∙ rw (le-ltb (length T) 1 (omega arith))
+    room-one w = alike size .room-same _ _ (textureIn (1 ∷ 1 ∷ 1 ∷ w ∷ [])) (kept []) ∙ rw (le-ltb (length T) 1 one)
 
     room-two : (a w : ℕ) → HasRoom (fedBy f n (upload 1 a)) 1 w
     unfolding run word header gather execute told commandOf textureVerdict
-    room-two a w = alike size .room-same _ _ (textureIn (1 ∷ 1 ∷ 1 ∷ w ∷ [])) (kept (upload 1 a)) ∙ rw (le-ltb (length T) 1 (omega arith), le-ltb (length T) 2 two)
+    room-two a w = alike size .room-same _ _ (textureIn (1 ∷ 1 ∷ 1 ∷ w ∷ [])) (kept (upload 1 a)) ∙ rw (le-ltb (length T) 1 one, le-ltb (length T) 1 one)
 
     last-shown : FirstShown f → ⊥
     last-shown h =
@@ -157,22 +157,22 @@ module _ (f : Feeder) (meets : Meets f) where
         let same : fedBy f n (upload 1 a ++ (upload 1 b ++ draw)) .picture .plane ≡ fedBy f n (upload 1 a ++ draw) .picture .plane = h P D F C T M done [] draw 1 a b ready (small-of draw refl) in
         let shown : (ws : List ℕ) → fedBy f n ws ≡ feedOn n ws .machine = λ ws. ap (λ (o : Outcome). o .machine) (meets (stateOf n) ws _ _ _ _ _ _) in
         let z : alphaOf b ≡ alphaOf a =
-        sym (shows-last a b .holds P D F C T M done two .1) ∙ ap (λ (m : Machine). getD (m .picture .plane) 3 0) (sym (shown (upload 1 a ++ (upload 1 b ++ draw))))
-        ∙ ap (λ (l : List ℕ). getD l 3 0) same ∙ ap (λ (m : Machine). getD (m .picture .plane) 3 0) (shown (upload 1 a ++ draw)) ∙ shows-one a .holds P D F C T M done two .1 in
+        sym (shows-last a b .holds P D F C T M done one .1) ∙ ap (λ (m : Machine). getD (m .picture .plane) 3 0) (sym (shown (upload 1 a ++ (upload 1 b ++ draw))))
+        ∙ ap (λ (l : List ℕ). getD l 3 0) same ∙ ap (λ (m : Machine). getD (m .picture .plane) 3 0) (shown (upload 1 a ++ draw)) ∙ shows-one a .holds P D F C T M done one .1 in
         omega (arith, alphas .0, alphas .1)
 
   pub first-shown : FirstShown f → ⊥
-  first-shown h = somewhere (λ P D F C T M right two. last-shown P D F C T M (reset-answers P D F C T M .zero-if right) two h)
+  first-shown h = somewhere (λ P D F C T M right one. last-shown P D F C T M (reset-answers P D F C T M .zero-if right) one h)
 
 -- ---- the other two calls, if they never answer 0
 pub never-reset : (f : List ℕ → List ℤ → List Float → List ℕ → List ℕ → List ℕ → Outcome)
     → ((P : List ℕ) (D : List ℤ) (F : List Float) (C T M : List ℕ) → f P D F C T M ≡ reset P D F C T M) → NeverReset f → ⊥
 never-reset f meets h =
-    somewhere (λ P D F C T M right two. h P D F C T M (ap (λ (o : Outcome). o .answer) (meets P D F C T M) ∙ reset-answers P D F C T M .zero-if right))
+    somewhere (λ P D F C T M right one. h P D F C T M (ap (λ (o : Outcome). o .answer) (meets P D F C T M) ∙ reset-answers P D F C T M .zero-if right))
 
 pub never-read : (f : List ℕ → ℕ → ℕ → Answered) → ((P : List ℕ) (x y : ℕ) → f P x y ≡ pixelOf P x y) → NeverRead f → ⊥
 never-read f meets h =
-    somewhere (λ P D F C T M right two. h P 0 0 (ap (λ (a : Answered). a .number) (meets P 0 0) ∙ pixel-answers P 0 0 .zero-if (right .of-plane)))
+    somewhere (λ P D F C T M right one. h P 0 0 (ap (λ (a : Answered). a .number) (meets P 0 0) ∙ pixel-answers P 0 0 .zero-if (right .of-plane)))
 
 -- ---- and of a way of keeping uploads: no such one answers alike the whole history
 -- two textures of 1 × 1 under the number 1
@@ -183,13 +183,13 @@ abbrev wordIn : Option Whole → ℕ
 wordIn none = 0
 wordIn (some u) = getD (u .words) 0 0
 
--- a way of keeping that answers alike the whole history, with room for two words
-module _ {X : Type 0} (K : Keep X) (size : Kind → ℕ) (Rel : X → Past → Type 0) (alike : Alike K (asPast size) Rel) (x : X) (start : Rel x (past [] [] [])) (space : 2 ≤ size Texture) where
+-- a way of keeping that answers alike the whole history, with room for one word
+module _ {X : Type 0} (K : Keep X) (size : Kind → ℕ) (Rel : X → Past → Type 0) (alike : Alike K (asPast size) Rel) (x : X) (start : Rel x (past [] [] [])) (space : 1 ≤ size Texture) where
   one-kept : Rel (K .put x (sent 7)) (past (sent 7 .whole ∷ []) [] [])
-  one-kept = alike .put-kept x (past [] [] []) (sent 7) start (record { sides = refl; size = refl }) (rw (le-ltb (size Texture) 1 (omega arith)))
+  one-kept = alike .put-kept x (past [] [] []) (sent 7) start (record { sides = refl; size = refl }) (rw (le-ltb (size Texture) 1 space))
 
   two-kept : Rel (K .put (K .put x (sent 7)) (sent 8)) (past (sent 8 .whole ∷ sent 7 .whole ∷ []) [] [])
-  two-kept = alike .put-kept (K .put x (sent 7)) (past (sent 7 .whole ∷ []) [] []) (sent 8) one-kept (record { sides = refl; size = refl }) (rw (le-ltb (size Texture) 2 space))
+  two-kept = alike .put-kept (K .put x (sent 7)) (past (sent 7 .whole ∷ []) [] []) (sent 8) one-kept (record { sides = refl; size = refl }) (rw (le-ltb (size Texture) 1 space))
 
   no-words : Blank K (wordsOn K x [])
   unfolding run
@@ -202,8 +202,8 @@ module _ {X : Type 0} (K : Keep X) (size : Kind → ℕ) (Rel : X → Past → T
     number = refl;
     passing-first = record { sides = refl; size = refl };
     passing-second = record { sides = refl; size = refl };
-    room-first = alike .room-same x (past [] [] []) (sent 7) start ∙ rw (le-ltb (size Texture) 1 (omega arith));
-    room-second = alike .room-same _ _ (sent 8) one-kept ∙ rw (le-ltb (size Texture) 2 space);
+    room-first = alike .room-same x (past [] [] []) (sent 7) start ∙ rw (le-ltb (size Texture) 1 space);
+    room-second = alike .room-same _ _ (sent 8) one-kept ∙ rw (le-ltb (size Texture) 1 space);
   }
 
   pub first-kept : FirstKept K x → ⊥

@@ -1,11 +1,11 @@
 -- The table of thirteen: `thirteen`. After a reset words leave what they leave on the plain machine, which antt computes; a clear is computed over any memory; the rest is cited. Assumes nothing.
 use Prim.Native.Nat.{ℕ, zero, _≤_}
 use mathlib.Core.Path.{_≡_, refl, ap, _∙_}
-use mathlib.Core.List.{List, [], _∷_}
+use mathlib.Core.List.{List, [], _∷_, _++_}
 use native.Mathlib.Omega.{arith}
 use borrow.Author.Tests.{eq-eqb, le-ltb}
 use lib.Bits.{bitOr}
-use lib.ListN.{length, set, take}
+use lib.ListN.{length, set, take, drop, drop-of-length-le}
 use Rattle.laws.specs.Cells.{mapAt}
 use Rattle.screen.specs.Plane.{paint}
 use Rattle.screen.specs.Draw.{pixels}
@@ -20,7 +20,7 @@ use Rattle.settings.specs.declared.Settings.{Settings}
 use Rattle.state.proofs.Formed.{parts, begun-idle}
 use Rattle.store.specs.declared.Kind.{Kind}
 use Rattle.store.specs.declared.Kind.the-variants.{Texture, Model}
-use Rattle.store.specs.Uploads.{Whole, live}
+use Rattle.store.specs.Uploads.{Whole, cards, live, wordsOf, total}
 use Rattle.store.specs.Slots.{wholeOf, view}
 use Rattle.store.proofs.Kept.{Keeps, keeps-view, keeps-look}
 use Rattle.flat.specs.Words.{triOf, flatVerdict, inReach}
@@ -143,12 +143,17 @@ module _ (t u : ℕ) (p : Picture) where
   unfolding run word header gather execute told commandOf textureVerdict
   one-left n h = rw (le-ltb t 1 h) (refl, refl)
 
-three-four : (u : ℕ) (p : Picture)
-    → (run (asPast (given 4 u)) (from p) three .control .notes .status ≡ 64) × (live (run (asPast (given 4 u)) (from p) three .control .box .textures) ≡ wholeOf 1 2 2 (11 ∷ 12 ∷ []) ∷ wholeOf 2 2 2 (21 ∷ 22 ∷ []) ∷ [])
+-- 12 on the plain machine, with a texture store of t words
+abbrev Again : ℕ → Type 0
+Again t =
+    (u : ℕ) (p : Picture)
+    → (run (asPast (given t u)) (from p) three .control .notes .status ≡ 0) × (live (run (asPast (given t u)) (from p) three .control .box .textures) ≡ wholeOf 2 2 2 (21 ∷ 22 ∷ []) ∷ wholeOf 1 2 2 (31 ∷ 32 ∷ []) ∷ [])
+
+three-four : Again 4
 unfolding run word header gather execute told commandOf textureVerdict
 three-four u p = (refl, refl)
 
-three-six : (u : ℕ) (p : Picture) → (run (asPast (given 6 u)) (from p) three .control .notes .status ≡ 0) × (live (run (asPast (given 6 u)) (from p) three .control .box .textures) ≡ wholeOf 2 2 2 (21 ∷ 22 ∷ []) ∷ wholeOf 1 2 2 (31 ∷ 32 ∷ []) ∷ [])
+three-six : Again 6
 unfolding run word header gather execute told commandOf textureVerdict
 three-six u p = (refl, refl)
 
@@ -160,6 +165,14 @@ stored u a r l = (
   a .status ∙ ap (λ (k : ℕ). run (asPast (given k u)) plainStart three .control .notes .status) r ∙ l .0,
   keeps-view (a .textures) ∙ ap (λ (k : ℕ). live (run (asPast (given k u)) plainStart three .control .box .textures)) r ∙ l .1,
 )
+
+-- a store of 4 words is full, so its words are those of the two
+full : (u : ℕ) {t : ℕ} {m : Machine} → As t m (run (asPast (given t u)) plainStart three) → t ≡ 4 → m .control .box .textures .words ≡ 21 ∷ 22 ∷ 31 ∷ 32 ∷ []
+full u {m = m} a r =
+    let store : List ℕ = m .control .box .textures .words in
+    let us = ap (λ (k : ℕ). live (run (asPast (given k u)) plainStart three .control .box .textures)) r ∙ three-four u _ .1 in
+    let short : length store ≤ 4 = omega (arith, a .textures .long) in
+    a .textures .rep .words-are ∙ ap (λ (l : List Whole). wordsOf l ++ drop (total (cards l)) store) us ∙ ap (λ (l : List ℕ). 21 ∷ 22 ∷ 31 ∷ 32 ∷ l) (drop-of-length-le store short)
 
 -- ---- 3 and 4: clears, over any state and memory
 three-words : (C : List ℕ) (a b c : ℕ) → 3 ≤ length C → take 3 (set (set (set C 0 a) 1 b) 2 c) ≡ a ∷ b ∷ c ∷ []
@@ -274,6 +287,12 @@ thirteen = record {
         (a .status ∙ l .0, keeps-look (a .textures) n ∙ rw (l .1, eq-eqb n n refl))),
     λ u v b. raster.case-11 u v b,
   );
-  case-12 = (by-plain (λ t u r m a. stored u a r (three-four u _)), by-plain (λ t u r m a. stored u a r (three-six u _)));
+  case-12 = (
+    by-plain
+        (λ t u r m a.
+        let s = stored u a r (three-four u _) in
+        (s .0, s .1, full u a r)),
+    by-plain (λ t u r m a. stored u a r (three-six u _)),
+  );
   case-13 = (ieee.root-of-two, ieee.root-of-least);
 }

@@ -128,7 +128,9 @@ pub record Thirteen : Type 0 where
       × ((u v b : Corners) → texelOf (0xf0a5_1234 ∷ []) (record { width = 1; height = 1; u = u; v = v }) b ≡ record { r = 255; g = 0; b = 170; a = 85 })
   -- rule 9.12
   pub case-12 : InStore (λ size. size ≡ 4) three
-      (λ m. (statusOf m ≡ 64) × (view Texture (m .control .box .textures .slots) (m .control .box .textures .words) ≡ wholeOf 1 2 2 (11 ∷ 12 ∷ []) ∷ wholeOf 2 2 2 (21 ∷ 22 ∷ []) ∷ []))
+      (λ m.
+      (statusOf m ≡ 0) × (view Texture (m .control .box .textures .slots) (m .control .box .textures .words) ≡ wholeOf 2 2 2 (21 ∷ 22 ∷ []) ∷ wholeOf 1 2 2 (31 ∷ 32 ∷ []) ∷ [])
+      × (m .control .box .textures .words ≡ 21 ∷ 22 ∷ 31 ∷ 32 ∷ []))
       × InStore (λ size. size ≡ 6) three
       (λ m. (statusOf m ≡ 0) × (view Texture (m .control .box .textures .slots) (m .control .box .textures .words) ≡ wholeOf 2 2 2 (21 ∷ 22 ∷ []) ∷ wholeOf 1 2 2 (31 ∷ 32 ∷ []) ∷ []))
   -- rule 9.13

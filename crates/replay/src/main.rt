@@ -13,7 +13,8 @@ ghost use Prim.Native.Nat.{_<_};
 // The longest stream that is taken.
 const TAPE: usize = 110000;
 
-const STORE: usize = 400000;
+// Words of a store. Some streams fill both to the last word.
+const STORE: usize = 32760;
 
 // One stream three times, if the file has another. The counts on the tape are dropped after the
 // first.

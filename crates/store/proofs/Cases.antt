@@ -43,17 +43,25 @@ case-12-taken : (answer first (empty 4) ≡ Fits) × (answer second (put first (
 unfolding answer put empty first second
 case-12-taken = (refl, refl)
 
-case-12-four : answer again (both 4) ≡ NoWords
+case-12-fits : (answer again (both 4) ≡ Fits) × (answer again (both 6) ≡ Fits)
 unfolding answer both put empty first second again
-case-12-four = refl
+case-12-fits = (refl, refl)
 
-case-12-six : answer again (both 6) ≡ Fits
-unfolding answer both put empty first second again
-case-12-six = refl
-
-case-12-last : (put again (both 6) .words ≡ 21 ∷ 22 ∷ 31 ∷ 32 ∷ 0 ∷ 0 ∷ []) × (view Texture (put again (both 6) .slots) (put again (both 6) .words) ≡ second ∷ again ∷ [])
+case-12-four : (put again (both 4) .words ≡ 21 ∷ 22 ∷ 31 ∷ 32 ∷ []) × (view Texture (put again (both 4) .slots) (put again (both 4) .words) ≡ second ∷ again ∷ [])
 unfolding both put empty first second again
-case-12-last = (refl, refl)
+case-12-four = (refl, refl)
+
+case-12-six : (put again (both 6) .words ≡ 21 ∷ 22 ∷ 31 ∷ 32 ∷ 0 ∷ 0 ∷ []) × (view Texture (put again (both 6) .slots) (put again (both 6) .words) ≡ second ∷ again ∷ [])
+unfolding both put empty first second again
+case-12-six = (refl, refl)
+
+-- three words: beside the second they need a store of 5, and under a new number, beside both, one of 7
+larger : ℕ → Whole
+larger n = wholeOf n 2 3 (31 ∷ 32 ∷ 33 ∷ [])
+
+one-too-many : (answer (larger 1) (both 4) ≡ NoWords) × (answer (larger 1) (both 5) ≡ Fits) × (answer (larger 3) (both 6) ≡ NoWords) × (answer (larger 3) (both 7) ≡ Fits)
+unfolding answer both put empty first second larger
+one-too-many = (refl, refl, refl, refl)
 
 -- ---- rule 8.3: a slot is not chosen by some bits of the number, 1 and 80000001 are different
 far : Whole

@@ -2,12 +2,12 @@
 use Prim.Native.Nat.{ℕ, suc, _+_, _≤_, _<_}
 use mathlib.Core.Path.{_≡_, refl, sym, ap, _∙_}
 use mathlib.Core.Bool.{Bool, true, false, cond, not, _&&_, true≢false, false≢true}
-use mathlib.Core.Option.{Option, some}
-use mathlib.Core.List.{List, [], _∷_, _++_, append-assoc}
+use mathlib.Core.Option.{Option, none, some}
+use mathlib.Core.List.{List, [], _∷_, _++_, append-assoc, append-nil}
 use native.Mathlib.Omega.{arith}
 use lib.ListN.{length, length-append}
 use lib.Dec.{eqb, leb, ltb}
-use borrow.Author.Tests.{eqb-true, eqb-false, ne-eqb, leb-false, ltb-false}
+use borrow.Author.Tests.{eqb-true, eqb-false, ne-eqb, lt-leb, leb-false, ltb-false}
 use Rattle.store.specs.Uploads.{Upload, Whole, Card, card, cards, without, find, isSome, holds, wordsOf, total, stored, live, counted, room}
 use Rattle.store.specs.Slots.{isFits}
 use Rattle.store.specs.declared.Room.{Room}
@@ -78,6 +78,36 @@ module _ {W : Type 0} where
       go true p ih = absurd (true≢false p)
       go false p ih = ap (λ (l : List (Upload W)). u ∷ l) (ih p)
 
+  without-twice : (n : ℕ) (us : List (Upload W)) → without n (without n us) ≡ without n us
+  without-twice n [] = refl
+  without-twice n (u ∷ us) = go (eqb (u .number) n) refl (without-twice n us)
+    where
+      go : (b : Bool) → eqb (u .number) n ≡ b → without n (without n us) ≡ without n us → without n (cond b (without n us) (u ∷ without n us)) ≡ cond b (without n us) (u ∷ without n us)
+      go true e ih = ih
+      go false e ih = rw (e, ih)
+
+  without-swap : (n m : ℕ) (us : List (Upload W)) → without n (without m us) ≡ without m (without n us)
+  without-swap n m [] = refl
+  without-swap n m (u ∷ us) = go (eqb (u .number) n) (eqb (u .number) m) refl refl (without-swap n m us)
+    where
+      go : (a b : Bool) → eqb (u .number) n ≡ a → eqb (u .number) m ≡ b → without n (without m us) ≡ without m (without n us)
+          → without n (cond b (without m us) (u ∷ without m us)) ≡ without m (cond a (without n us) (u ∷ without n us))
+      go true true p q ih = ih
+      go true false p q ih = rw p ih
+      go false true p q ih = rw q ih
+      go false false p q ih = rw (p, q, ih)
+
+  -- what a history leaves of the other numbers is what their own history leaves
+  pub live-without : (n : ℕ) (h : List (Upload W)) → without n (live h) ≡ live (without n h)
+  live-without n [] = refl
+  live-without n (u ∷ h) = without-append n (without (u .number) (live h)) (u ∷ []) ∙ go (eqb (u .number) n) refl (live-without n h)
+    where
+      go : (b : Bool) → eqb (u .number) n ≡ b → without n (live h) ≡ live (without n h)
+          → without n (without (u .number) (live h)) ++ cond b [] (u ∷ []) ≡ live (cond b (without n h) (u ∷ without n h))
+      go true e ih =
+          append-nil (without n (without (u .number) (live h))) ∙ ap (λ (k : ℕ). without n (without k (live h))) (eqb-true (u .number) n e) ∙ without-twice n (live h) ∙ ih
+      go false e ih = ap (λ (l : List (Upload W)). l ++ (u ∷ [])) (without-swap n (u .number) (live h) ∙ ap (without (u .number)) ih)
+
   pub length-without : (n : ℕ) (us : List (Upload W)) → length (without n us) ≤ length us
   length-without n [] = omega arith
   length-without n (u ∷ us) = go (eqb (u .number) n) (length-without n us)
@@ -95,6 +125,14 @@ module _ {W : Type 0} where
           → length (cond b (without n us) (u ∷ without n us)) < suc (length us)
       go true h ih = omega (arith, length-without n us)
       go false h ih = omega (arith, ih h)
+
+  -- of at most 64, a new number has no slot exactly if the other numbers hold 64
+  pub slot-beside : (n : ℕ) (us : List (Upload W)) → length us ≤ 64 → (not (holds n us) && leb 64 (length us)) ≡ leb 64 (length (without n us))
+  slot-beside n us few = go (holds n us) refl
+    where
+      go : (b : Bool) → holds n us ≡ b → (not b && leb 64 (length us)) ≡ leb 64 (length (without n us))
+      go true e = sym (lt-leb 64 (length (without n us)) (omega (arith, length-without-held n us e)))
+      go false e = rw (without-none n us e)
 
   -- ---- `All` and `Apart` after an upload
   pub all-stored : (P : Upload W → Type 0) (u : Upload W) (us : List (Upload W)) → P u → All P us → All P (stored u us)
@@ -149,6 +187,20 @@ total-without n (c ∷ cs) = go (eqb (c .number) n) (total-without n cs)
     go true ih = omega arith
     go false ih = omega arith
 
+-- the words that go: those of the upload that is found
+abbrev pub wordsIn : Option Whole → ℕ
+wordsIn none = 0
+wordsIn (some u) = length (u .words)
+
+pub total-found : (n : ℕ) (us : List Whole) → total (cards (without n us)) + wordsIn (find n us) ≤ total (cards us)
+total-found n [] = omega arith
+total-found n (u ∷ us) = go (eqb (u .number) n) (total-found n us)
+  where
+    go : (b : Bool) → total (cards (without n us)) + wordsIn (find n us) ≤ total (cards us)
+        → total (cards (cond b (without n us) (u ∷ without n us))) + wordsIn (cond b (some u) (find n us)) ≤ length (u .words) + total (cards us)
+    go true ih = omega (arith, ap total (cards-without n us), total-without n (cards us))
+    go false ih = omega arith
+
 pub total-stored : (c : Card) (cs : List Card) → total (stored c cs) ≡ total (without (c .number) cs) + c .words
 total-stored c cs = omega (arith, total-append (without (c .number) cs) (c ∷ []))
 
@@ -168,14 +220,10 @@ pub record Space (size : ℕ) (cs : List Card) (n new : ℕ) : Type 0 where
 pub space : (size : ℕ) (cs : List Card) (n new : ℕ) → length cs ≤ 64 → room size cs n new ≡ Fits → Space size cs n new
 space size cs n new few h = go (not (holds n cs) && leb 64 (length cs)) (ltb size (counted n cs + new)) refl refl h
   where
-    slot-of : (b : Bool) → holds n cs ≡ b → (not b && leb 64 (length cs)) ≡ false → length (without n cs) < 64
-    slot-of true e p = omega (arith, length-without-held n cs e)
-    slot-of false e p = omega (arith, length-without n cs, leb-false 64 (length cs) p)
-
     go : (a b : Bool) → (not (holds n cs) && leb 64 (length cs)) ≡ a → ltb size (counted n cs + new) ≡ b → cond a NoSlot (cond b NoWords Fits) ≡ Fits → Space size cs n new
     go true b e f h = absurd (let z : _≡_ {A = ℕ} 0 1 = cc in omega arith)
     go false true e f h = absurd (let z : _≡_ {A = ℕ} 0 1 = cc in omega arith)
-    go false false e f h = record { words = omega (arith, total-without n cs, ltb-false size (counted n cs + new) f); slot = slot-of (holds n cs) refl e }
+    go false false e f h = record { words = omega (arith, ltb-false size (counted n cs + new) f); slot = omega (arith, leb-false 64 (length (without n cs)) (sym (slot-beside n cs few) ∙ e)) }
 
 pub is-fits : (r : Room) → isFits r ≡ true → r ≡ Fits
 is-fits Fits h = refl

@@ -31,7 +31,7 @@ look-is k n (s ∷ ss) store = go (s .held) (eqb (s .number) n) refl (look-is k 
     go true false e ih = rw e ih
     go false b e ih = ih
 
-holds-cards : (n : ℕ) (us : List Whole) → holds n (cards us) ≡ holds n us
+pub holds-cards : (n : ℕ) (us : List Whole) → holds n (cards us) ≡ holds n us
 holds-cards n [] = refl
 holds-cards n (u ∷ us) = go (eqb (u .number) n) (holds-cards n us)
   where
@@ -105,23 +105,21 @@ module _ (k : Kind) (slots : List Slot) (store : List ℕ) (n : ℕ) (long : len
   pub total-fits : total (told k slots) ≤ length store
   total-fits = omega (arith, total-is, rep .formed .fits)
 
-  -- nothing is under the number
-  pub put-new : (ws : List ℕ) (end : ℕ) → slotFor n slots ≡ Nothing → end ≡ total (told k slots)
-      → (end ≡ total (without n (told k slots))) × (over end (take end store ++ ws) store ≡ wordsAfter n ws (view k slots store) store)
-  put-new ws end e p =
+  -- nothing is under the number: the words of the others are all that there are
+  pub put-new : (ws : List ℕ) (others : ℕ) → slotFor n slots ≡ Nothing → others ≡ total (without n (told k slots))
+      → over others (take others store ++ ws) store ≡ wordsAfter n ws (view k slots store) store
+  put-new ws others e p =
       let us : List Whole = view k slots store in
       let free : holds n us ≡ false = ap isSome (sym (look-is k n slots store)) ∙ ap (λ (f : Found). isSome (looked k store f)) e in
       let same : without n us ≡ us = without-none n us free in
-      let all : end ≡ total (cards us) = p ∙ total-is in (
-        rw (without-none n (told k slots) (none-holds k n slots e)) p,
-        last n ws us store store end end all (rw same all) (omega arith) (rw (same, all) (rep .words-are)),
-      )
+      let all : others ≡ total (cards us) = p ∙ ap total (without-none n (told k slots) (none-holds k n slots e)) ∙ total-is in
+      last n ws us store store others others all (rw same all) (omega arith) (rw (same, all) (rep .words-are))
 
   -- something is: where it is, what is left without it, and the words once later ones have closed up
   pub record Spot (s : Slot) : Type 0 where
     pub sides : sidesOk k (s .width) (s .height) ≡ true
     pub inside : s .start + areaOf k (s .width) (s .height) ≤ total (told k slots)
-    pub left : total (told k slots) - areaOf k (s .width) (s .height) ≡ total (without n (told k slots))
+    pub left : total (without n (told k slots)) + areaOf k (s .width) (s .height) ≡ total (told k slots)
     pub closed : paste store (s .start) (drop (s .start + areaOf k (s .width) (s .height)) store) (total (told k slots) - (s .start + areaOf k (s .width) (s .height)))
         ≡ wordsOf (without n (view k slots store)) ++ drop (total (without n (told k slots))) store
 
@@ -155,11 +153,11 @@ module _ (k : Kind) (slots : List Slot) (store : List ℕ) (n : ℕ) (long : len
         closed = rw (start, area, more, o .gone, wordsOf-append (o .xs) (o .ys), rest) (close A B C R store a b c is (length-wordsOf (o .xs)) refl (length-wordsOf (o .ys)));
       }
 
-  pub put-old : (ws st : List ℕ) (s : Slot) (size end : ℕ) → slotFor n slots ≡ At s → size ≡ areaOf k (s .width) (s .height) → end ≡ total (told k slots)
-      → st ≡ paste store (s .start) (drop (s .start + size) store) (end - (s .start + size)) → over end (take (end - size) st ++ ws) st ≡ wordsAfter n ws (view k slots store) store
-  put-old ws st s size end e p q h =
+  pub put-old : (ws st : List ℕ) (s : Slot) (size others : ℕ) → slotFor n slots ≡ At s → size ≡ areaOf k (s .width) (s .height) → others ≡ total (without n (told k slots))
+      → st ≡ paste store (s .start) (drop (s .start + size) store) (others + size - (s .start + size)) → over (others + size) (take others st ++ ws) st ≡ wordsAfter n ws (view k slots store) store
+  put-old ws st s size others e p q h =
       let us : List Whole = view k slots store in
       let o : Spot s = spot s e in
-      let left : end - size ≡ total (without n (told k slots)) = rw (p, q) (o .left) in
+      let end : others + size ≡ total (told k slots) = omega (arith, o .left) in
       let same : total (cards (without n us)) ≡ total (without n (told k slots)) = ap total (cards-without n us) ∙ ap (λ (l : List Card). total (without n l)) (view-told k slots store long ok) in
-      last n ws us store st (end - size) end (q ∙ total-is) (left ∙ sym same) (omega arith) (h ∙ rw (p, q, o .left) (o .closed))
+      last n ws us store st others (others + size) (end ∙ total-is) (q ∙ sym same) (omega arith) (h ∙ rw (end, p, q) (o .closed))

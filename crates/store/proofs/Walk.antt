@@ -1,5 +1,5 @@
 -- A loop that walks the slots: what a definition of `specs/Slots.antt` says of the slots from index i on, by the slot at i and those from i + 1 on.
--- `others` builds its slots as it goes, so its turns speak of the slots up to i. Assumes nothing.
+-- `others` builds its slots as it goes, so its turns, and those of `used_by_others`, speak of the slots up to i. Assumes nothing.
 use Prim.Native.Nat.{ℕ, suc, _+_, _-_, _≤_, _<_}
 use mathlib.Core.Path.{_≡_, refl, sym, ap, _∙_}
 use mathlib.Core.Bool.{Bool, true, false, cond, not, _&&_}
@@ -77,9 +77,6 @@ found-holds k n (s ∷ ss) = go (s .held) (eqb (s .number) n) refl (found-holds 
     go true false e ih = rw e ih
     go false b e ih = ih
 
-pub at-holds : (k : Kind) (n : ℕ) (ss : List Slot) {s : Slot} → slotFor n ss ≡ At s → holds n (told k ss) ≡ true
-at-holds k n ss e = found-holds k n ss ∙ ap isFound e
-
 pub none-holds : (k : Kind) (n : ℕ) (ss : List Slot) → slotFor n ss ≡ Nothing → holds n (told k ss) ≡ false
 none-holds k n ss e = found-holds k n ss ∙ ap isFound e
 
@@ -121,14 +118,7 @@ module _ (ss : List Slot) (i : ℕ) (here : i < length ss) where
   pub found-other : (n : ℕ) → s .held ≡ true → (s .number ≡ n → ⊥) → slotFor n (drop i ss) ≡ slotFor n (drop (i + 1) ss)
   found-other n a b = rw (slots-from, a, ne-eqb _ _ b)
 
-  -- in_use
-  pub told-held : (k : Kind) → s .held ≡ true → told k (drop i ss) ≡ cardAt k s ∷ told k (drop (i + 1) ss)
-  told-held k a = rw (slots-from, a)
-
-  pub told-unheld : (k : Kind) → s .held ≡ false → told k (drop i ss) ≡ told k (drop (i + 1) ss)
-  told-unheld k a = rw (slots-from, a)
-
-  -- others
+  -- used_by_others, others
   kept-next : (k : Kind) (n : ℕ) → kept k n (i + 1) ss ≡ kept k n i ss ++ without n (told k (s ∷ []))
   kept-next k n =
       rw (add-one, take-suc ss i noSlot)
@@ -193,44 +183,61 @@ area-most Model n h e =
     let b : Bool = leb n 18724 in
     omega (arith, leb-true n 18724 (and-right a b (and-left (a && b) (eqb h 0) e)))
 
--- ---- the turns of `others`
--- the slots up to i are done: the cards of the other numbers are in `out`, `count` of them, with so many words
-pub record Packed (k : Kind) (n : ℕ) (ss : List Slot) (i : ℕ) (out : List Slot) (count sum : ℕ) : Type 0 where
+-- ---- the turns of `used_by_others`
+-- the slots up to i are done: `count` of them are of other numbers, with `sum` words
+pub record Tally (k : Kind) (n : ℕ) (ss : List Slot) (i count sum : ℕ) : Type 0 where
   pub within : i ≤ 64
   pub long : length ss ≡ 64
-  pub slots : out ≡ slotsOf (kept k n i ss)
   pub count-is : count ≡ length (kept k n i ss)
   pub sum-is : sum ≡ total (kept k n i ss)
 
-module _ {k : Kind} {n : ℕ} {ss : List Slot} {i : ℕ} {out : List Slot} {count sum : ℕ} (p : Packed k n ss i out count sum) where
-  pub packed-count : count ≤ i
-  packed-count = omega (arith, p .count-is, kept-count k n i ss (omega (arith, p .within, p .long)))
+module _ {k : Kind} {n : ℕ} {ss : List Slot} {i : ℕ} {count sum : ℕ} (p : Tally k n ss i count sum) where
+  pub tally-count : count ≤ i
+  tally-count = omega (arith, p .count-is, kept-count k n i ss (omega (arith, p .within, p .long)))
 
-  pub packed-sum : sum ≤ total (told k ss)
-  packed-sum = omega (arith, p .sum-is, kept-total k n i ss)
-
-  pub packed-length : length out ≡ 64
-  packed-length = ap length (p .slots) ∙ length-slotsOf (kept k n i ss) (omega (arith, packed-count, p .within, p .count-is))
+  pub tally-sum : sum ≤ total (told k ss)
+  tally-sum = omega (arith, p .sum-is, kept-total k n i ss)
 
   module _ (here : i < 64) where
-    at-i : i < length ss
-    at-i = omega (arith, p .long)
+    pub next-more : stays n (getD ss i noSlot) ≡ true → kept k n (i + 1) ss ≡ kept k n i ss ++ (cardAt k (getD ss i noSlot) ∷ [])
+    next-more e = rw e at (kept-step ss i (omega (arith, p .long)) k n)
 
-    pub packed-more : (area : ℕ) → stays n (getD ss i noSlot) ≡ true → area ≡ areaOf k (getD ss i noSlot .width) (getD ss i noSlot .height)
-        → Packed k n ss (i + 1) (set out count (slotOf sum (cardAt k (getD ss i noSlot)))) (count + 1) (sum + area)
-    packed-more area e a =
+    pub next-same : stays n (getD ss i noSlot) ≡ false → kept k n (i + 1) ss ≡ kept k n i ss
+    next-same e = rw e at (kept-step ss i (omega (arith, p .long)) k n)
+
+    pub tally-more : (area : ℕ) → stays n (getD ss i noSlot) ≡ true → area ≡ areaOf k (getD ss i noSlot .width) (getD ss i noSlot .height)
+        → Tally k n ss (i + 1) (count + 1) (sum + area)
+    tally-more area e a =
         let cs : List Card = kept k n i ss in
-        let c : Card = cardAt k (getD ss i noSlot) in
-        let next : kept k n (i + 1) ss ≡ cs ++ (c ∷ []) = rw e at (kept-step ss i at-i k n) in
+        let one : List Card = cardAt k (getD ss i noSlot) ∷ [] in
         record {
           within = omega (arith, here);
           long = p .long;
-          slots = rw (p .slots, next) (slots-last cs c count sum (p .count-is) (p .sum-is) (omega (arith, packed-count)));
-          count-is = omega (arith, p .count-is, ap length next, length-append cs (c ∷ []));
-          sum-is = omega (arith, p .sum-is, ap total next, total-append cs (c ∷ []));
+          count-is = omega (arith, p .count-is, ap length (next-more e), length-append cs one);
+          sum-is = omega (arith, p .sum-is, ap total (next-more e), total-append cs one);
         }
 
+    pub tally-same : stays n (getD ss i noSlot) ≡ false → Tally k n ss (i + 1) count sum
+    tally-same e = record { within = omega (arith, here); long = p .long; count-is = rw (next-same e) (p .count-is); sum-is = rw (next-same e) (p .sum-is) }
+
+-- ---- the turns of `others`
+-- and the cards of the other numbers are in `out`
+pub record Packed (k : Kind) (n : ℕ) (ss : List Slot) (i : ℕ) (out : List Slot) (count sum : ℕ) : Type 0 where
+  pub tally : Tally k n ss i count sum
+  pub slots : out ≡ slotsOf (kept k n i ss)
+
+module _ {k : Kind} {n : ℕ} {ss : List Slot} {i : ℕ} {out : List Slot} {count sum : ℕ} (p : Packed k n ss i out count sum) where
+  pub packed-length : length out ≡ 64
+  packed-length = ap length (p .slots) ∙ length-slotsOf (kept k n i ss) (omega (arith, tally-count (p .tally), p .tally .within, p .tally .count-is))
+
+  module _ (here : i < 64) where
+    pub packed-more : (area : ℕ) → stays n (getD ss i noSlot) ≡ true → area ≡ areaOf k (getD ss i noSlot .width) (getD ss i noSlot .height)
+        → Packed k n ss (i + 1) (set out count (slotOf sum (cardAt k (getD ss i noSlot)))) (count + 1) (sum + area)
+    packed-more area e a = record {
+      tally = tally-more (p .tally) here area e a;
+      slots = rw (p .slots, next-more (p .tally) here e)
+          (slots-last (kept k n i ss) (cardAt k (getD ss i noSlot)) count sum (p .tally .count-is) (p .tally .sum-is) (omega (arith, tally-count (p .tally))));
+    }
+
     pub packed-same : stays n (getD ss i noSlot) ≡ false → Packed k n ss (i + 1) out count sum
-    packed-same e =
-        let next : kept k n (i + 1) ss ≡ kept k n i ss = rw e at (kept-step ss i at-i k n) in
-        record { within = omega (arith, here); long = p .long; slots = rw next (p .slots); count-is = rw next (p .count-is); sum-is = rw next (p .sum-is) }
+    packed-same e = record { tally = tally-same (p .tally) here e; slots = rw (next-same (p .tally) here e) (p .slots) }

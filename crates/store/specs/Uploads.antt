@@ -76,7 +76,7 @@ slotCount = 64
 
 -- rule 8.4: how many words count against an upload under n
 abbrev pub counted : ℕ → List Card → ℕ
-counted n cs = total cs
+counted n cs = total (without n cs)
 
 -- rule 8.5: is there a slot, and are there words enough?
 abbrev pub room : ℕ → List Card → ℕ → ℕ → Room

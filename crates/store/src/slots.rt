@@ -39,49 +39,6 @@ pub fn area(kind: Kind, width: u32, height: u32) -> usize
     }
 }
 
-// How many slots are held, and how many words they take.
-pub struct Usage {
-    pub count: usize,
-    pub total: usize,
-}
-
-pub fn in_use(kind: Kind, slots: [Slot; SLOTS]) -> Usage
-    requires { ⌜ total (told kind slots) ≤ mostWords ⌝ }
-    ensures { λ r. ⌜ (r .count ≡ length (told kind slots)) × (r .total ≡ total (told kind slots)) ⌝ }
-{
-    let mut i = 0;
-    let mut count = 0;
-    let mut total = 0;
-    while i < SLOTS {
-        let s = slots[i];
-        i += 1;
-        if s.held {
-            count += 1;
-            total += area(kind, s.width, s.height);
-        }
-    }
-    Usage { count, total }
-}
-
-// Is there room for so many words under this number, in a store of `size` words?
-pub fn room_for(kind: Kind, slots: [Slot; SLOTS], size: usize, number: u32, words: usize) -> Room
-    requires { ⌜ total (told kind slots) ≤ mostWords ⌝ }
-    requires { ⌜ words ≤ mostWords ⌝ }
-    ensures { λ r. ⌜ r ≡ room size (told kind slots) number words ⌝ }
-{
-    let used = in_use(kind, slots);
-    if SLOTS <= used.count {
-        let f = find(slots, number);
-        if let Found::Nothing = f {
-            return Room::NoSlot;
-        }
-    }
-    if size < used.total + words {
-        return Room::NoWords;
-    }
-    Room::Fits
-}
-
 // Does this slot stay, once the upload under the number has gone?
 fn keeps(s: Slot, number: u32) -> bool
     ensures { λ r. ⌜ r ≡ stays number s ⌝ }
@@ -90,6 +47,47 @@ fn keeps(s: Slot, number: u32) -> bool
         return s.number != number;
     }
     false
+}
+
+// How many slots the other numbers hold, and how many words they take.
+pub struct Usage {
+    pub count: usize,
+    pub total: usize,
+}
+
+pub fn used_by_others(kind: Kind, slots: [Slot; SLOTS], number: u32) -> Usage
+    requires { ⌜ total (told kind slots) ≤ mostWords ⌝ }
+    ensures { λ r. ⌜ (r .count ≡ length (without number (told kind slots))) × (r .total ≡ total (without number (told kind slots))) ⌝ }
+{
+    let mut i = 0;
+    let mut count = 0;
+    let mut total = 0;
+    while i < SLOTS {
+        let s = slots[i];
+        i += 1;
+        if keeps(s, number) {
+            count += 1;
+            total += area(kind, s.width, s.height);
+        }
+    }
+    Usage { count, total }
+}
+
+// Is there room for so many words under this number, in a store of `size` words? An old upload under
+// the number would leave both its slot and its words, so only the other numbers count.
+pub fn room_for(kind: Kind, slots: [Slot; SLOTS], size: usize, number: u32, words: usize) -> Room
+    requires { ⌜ total (told kind slots) ≤ mostWords ⌝ }
+    requires { ⌜ words ≤ mostWords ⌝ }
+    ensures { λ r. ⌜ r ≡ room size (told kind slots) number words ⌝ }
+{
+    let used = used_by_others(kind, slots, number);
+    if SLOTS <= used.count {
+        return Room::NoSlot;
+    }
+    if size < used.total + words {
+        return Room::NoWords;
+    }
+    Room::Fits
 }
 
 // The uploads under other numbers, closed up.

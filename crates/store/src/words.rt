@@ -7,7 +7,7 @@ use crate::SLOTS;
 use crate::Slot;
 use crate::slots::area;
 use crate::slots::find;
-use crate::slots::in_use;
+use crate::slots::used_by_others;
 ghost use mathlib.Core.Path.{_≡_};
 ghost use mathlib.Core.Bool.{true};
 ghost use Prim.Native.Nat.{_+_, _-_, _≤_};
@@ -77,15 +77,16 @@ pub fn put(kind: Kind, slots: [Slot; SLOTS], store: &mut [u32], number: u32, wor
     requires { ⌜ total (without number (told kind slots)) + length (now words) ≤ length (now store) ⌝ }
     ensures { λ _. ⌜ now (store .exit) ≡ wordsAfter number (now (words .entry)) (view kind slots (now (store .entry))) (now (store .entry)) ⌝ }
 {
-    let used = in_use(kind, slots);
-    let end = used.total;
+    let used = used_by_others(kind, slots, number);
+    let others = used.total;
     let f = find(slots, number);
     let Found::At(s) = f else {
-        put_last(store, end, words, end);
+        put_last(store, others, words, others);
         return;
     };
     let size = area(kind, s.width, s.height);
+    let end = others + size;
     let to = s.start as usize;
     move_down(store, to, to + size, end);
-    put_last(store, end - size, words, end);
+    put_last(store, others, words, end);
 }

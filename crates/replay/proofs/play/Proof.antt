@@ -26,10 +26,10 @@ slice-aggregate-streams-5 : tie.Need-slice-aggregate-streams-5
 slice-aggregate-streams-5 c = sym (length-replicate {0} {A = ℕ} 524291 0)
 
 slice-aggregate-streams-6 : tie.Need-slice-aggregate-streams-6
-slice-aggregate-streams-6 c = sym (length-replicate {0} {A = ℕ} 400000 0)
+slice-aggregate-streams-6 c = sym (length-replicate {0} {A = ℕ} 32760 0)
 
 slice-aggregate-streams-7 : tie.Need-slice-aggregate-streams-7
-slice-aggregate-streams-7 c = sym (length-replicate {0} {A = ℕ} 400000 0)
+slice-aggregate-streams-7 c = sym (length-replicate {0} {A = ℕ} 32760 0)
 
 streams-requires : tie.Need-streams-requires
 streams-requires c κs = search needs

@@ -6,7 +6,7 @@ use borrow.Author.Needs.{needs}
 use lib.ListN.{length}
 use Rattle.store.specs.Uploads.{total}
 use Rattle.store.specs.Slots.{slotsOf}
-use Rattle.store.proofs.Walk.{Packed, packed-count, packed-sum, packed-length, packed-more, packed-same, kept-all}
+use Rattle.store.proofs.Walk.{tally-count, tally-sum, Packed, packed-length, packed-more, packed-same, kept-all}
 use Rattle.store.proofs.slots.others.Statement.{statement}
 use Rattle.store.proofs.slots.others.Tie as tie
 
@@ -17,7 +17,7 @@ abbrev μ-loop : tie.MeasureT-loop
 μ-loop kind number slots out₀ i₀ count₀ total₀ out i count sum = 64 - i
 
 loop-holds : tie.Need-loop-holds Inv-loop μ-loop
-loop-holds c = record { within = omega arith; long = search needs; slots = refl; count-is = refl; sum-is = refl }
+loop-holds c = record { tally = record { within = omega arith; long = search needs; count-is = refl; sum-is = refl }; slots = refl }
 
 mul-s : tie.Need-mul-s Inv-loop μ-loop
 mul-s c = omega arith
@@ -32,16 +32,16 @@ keeps-requires : tie.Need-keeps-requires Inv-loop μ-loop
 keeps-requires c κs = search needs
 
 cast-t17 : tie.Need-cast-t17 Inv-loop μ-loop
-cast-t17 c = omega (arith, packed-sum (c .before .before .before .before .loop .inv))
+cast-t17 c = omega (arith, tally-sum (c .before .before .before .before .loop .inv .tally))
 
 mul-out : tie.Need-mul-out Inv-loop μ-loop
-mul-out c = omega (arith, packed-count (c .before .before .before .before .loop .inv))
+mul-out c = omega (arith, tally-count (c .before .before .before .before .loop .inv .tally))
 
 array-set-from-out : tie.Need-array-set-from-out Inv-loop μ-loop
-array-set-from-out c = omega (arith, packed-count (c .before .before .before .before .loop .inv), packed-length (c .before .before .before .before .loop .inv))
+array-set-from-out c = omega (arith, tally-count (c .before .before .before .before .loop .inv .tally), packed-length (c .before .before .before .before .loop .inv))
 
 add-count : tie.Need-add-count Inv-loop μ-loop
-add-count c = omega (arith, packed-count (c .before .before .before .before .loop .inv))
+add-count c = omega (arith, tally-count (c .before .before .before .before .loop .inv .tally))
 
 area-requires : tie.Need-area-requires Inv-loop μ-loop
 area-requires c κs = search needs
@@ -49,7 +49,7 @@ area-requires c κs = search needs
 add-total : tie.Need-add-total Inv-loop μ-loop
 add-total c =
     let next = packed-more (c .before .before .before .before .before .loop .inv) (omega arith) (c .area .result) (sym (c .before .before .keeps .ensures) ∙ c .before .if1 .taken) (c .area .ensures) in
-    omega (arith, packed-sum next)
+    omega (arith, tally-sum (next .tally))
 
 loop-less : tie.Need-loop-less Inv-loop μ-loop
 loop-less c = omega arith
@@ -69,7 +69,7 @@ returns c =
     let args = at-loop .before .args in
     let p = at-loop .loop .inv in
     let all = kept-all (args .kind) (args .number) (at-loop .loop .i) (args .t2) (omega arith) in
-    (p .slots ∙ ap slotsOf all, (p .count-is ∙ ap length all, p .sum-is ∙ ap total all))
+    (p .slots ∙ ap slotsOf all, (p .tally .count-is ∙ ap length all, p .tally .sum-is ∙ ap total all))
 
 pub others-spec : {M : Type 1} → statement M
 others-spec =

@@ -1,11 +1,11 @@
 -- `store::words::put` meets its contract: if nothing is under the number, by `put-new`, else by `spot` and `put-old`. Assumes nothing.
-use Prim.Native.Nat.{_≤_}
+use Prim.Native.Nat.{_+_, _≤_}
 use mathlib.Core.Path.{_≡_, sym, _∙_}
 use mathlib.Core.List.{_++_}
 use native.Mathlib.Omega.{arith}
 use borrow.Author.Needs.{needs}
 use lib.ListN.{length, take}
-use Rattle.store.specs.Uploads.{without, total}
+use Rattle.store.specs.Uploads.{total}
 use Rattle.store.specs.Slots.{told, view, slotFor, over, wordsAfter}
 use Rattle.store.specs.declared.Slot.{Slot}
 use Rattle.store.specs.declared.Found.the-variants.{At}
@@ -22,13 +22,12 @@ fits c = total-fits (c .args .kind) (c .args .slots) (c .args .store .now) (c .a
 -- nothing is under the number
 new-at : (c : tie.After-enum-told)
     → let args = c .before .before .before .before .before .before .args in
-    let end = c .before .before .before .in-use .result .total in
-    (end ≡ total (without (args .number) (told (args .kind) (args .slots))))
-    × (over end (take end (args .store .now) ++ args .words .now) (args .store .now) ≡ wordsAfter (args .number) (args .words .now) (view (args .kind) (args .slots) (args .store .now)) (args .store .now))
+    let others = c .before .before .before .used-by-others .result .total in
+    over others (take others (args .store .now) ++ args .words .now) (args .store .now) ≡ wordsAfter (args .number) (args .words .now) (view (args .kind) (args .slots) (args .store .now)) (args .store .now)
 new-at c =
     let start = c .before .before .before .before .before .before in
     let args = start .args in
-    let used = c .before .before .before .in-use in
+    let used = c .before .before .before .used-by-others in
     put-new (args .kind) (args .slots) (args .store .now) (args .number) (long start) (start .pre .0) (args .words .now) (used .result .total)
     (sym (c .before .before .find .ensures) ∙ c .enum-told .given .1) (used .ensures .1)
 
@@ -49,8 +48,8 @@ spot-at c =
     let args = start .args in
     spot (args .kind) (args .slots) (args .store .now) (args .number) (long start) (start .pre .0) (slot c) (found c)
 
-in-use-requires : tie.Need-in-use-requires
-in-use-requires c κs = omega (arith, fits (c .before .before))
+used-by-others-requires : tie.Need-used-by-others-requires
+used-by-others-requires c κs = omega (arith, fits (c .before .before))
 
 find-requires : tie.Need-find-requires
 find-requires c κs = search needs
@@ -62,18 +61,26 @@ enum-told : tie.Need-enum-told
 enum-told c = search needs
 
 put-last-requires : tie.Need-put-last-requires
-put-last-requires c κs =
-    let new = new-at (c .before) .0 in
-    omega (arith, fits (c .before .before .before .before .before .before .before))
+put-last-requires c κs = omega (arith, c .before .before .before .before .used-by-others .ensures .1)
 
 same-length : tie.Need-same-length
 same-length c = search needs
 
 returns : tie.Need-returns
-returns c = c .before .before .put-last .ensures ∙ new-at (c .before .before .before .before) .1
+returns c = c .before .before .put-last .ensures ∙ new-at (c .before .before .before .before)
 
 area-requires : tie.Need-area-requires
 area-requires c κs = search needs
+
+-- the words of the others and those of the old upload are all that there are
+end-at : (c : tie.After-area) → c .before .before .before .before .before .used-by-others .result .total + c .area .result
+    ≤ length (c .before .before .before .before .before .before .before .before .args .store .now)
+end-at c =
+    let s = spot-at (c .before) in
+    omega (arith, c .area .ensures, s .left, c .before .before .before .before .before .used-by-others .ensures .1, fits (c .before .before .before .before .before .before .before .before))
+
+add-end : tie.Need-add-end
+add-end c = omega (arith, end-at c)
 
 cast-to : tie.Need-cast-to
 cast-to c = search needs
@@ -86,17 +93,10 @@ add-move-down c =
 move-down-requires : tie.Need-move-down-requires
 move-down-requires c κs =
     let s = spot-at (c .before .before .before) in
-    omega (arith, c .before .before .area .ensures, fits (c .before .before .before .before .before .before .before .before .before .before), c .before .before .before .before .before .before .before .in-use .ensures .1)
-
-sub-put-last : tie.Need-sub-put-last
-sub-put-last c =
-    let s = spot-at (c .before .before .before .before .before .before .before) in
-    omega (arith, c .before .before .before .before .before .before .area .ensures, c .before .before .before .before .before .before .before .before .before .before .before .in-use .ensures .1)
+    omega (arith, end-at (c .before .before), c .before .before .area .ensures, c .before .before .before .before .before .before .before .used-by-others .ensures .1)
 
 put-last-requires-2 : tie.Need-put-last-requires-2
-put-last-requires-2 c κs =
-    let s = spot-at (c .before .before .before .before .before .before .before) in
-    omega (arith, c .before .before .before .before .before .before .area .ensures, c .before .before .before .before .before .before .before .before .before .before .before .in-use .ensures .1, fits (c .before .before .before .before .before .before .before .before .before .before .before .before .before .before))
+put-last-requires-2 c κs = omega (arith, end-at (c .before .before .before .before .before .before), c .before .before .before .before .before .before .before .before .before .before .before .used-by-others .ensures .1)
 
 same-length-2 : tie.Need-same-length-2
 same-length-2 c = search needs
@@ -105,7 +105,7 @@ returns-2 : tie.Need-returns-2
 returns-2 c =
     let start = c .before .before .before .before .before .before .before .before .before .before .before .before .before .before .before .before .before in
     let args = start .args in
-    let used = c .before .before .before .before .before .before .before .before .before .before .before .before .before .before .in-use in
+    let used = c .before .before .before .before .before .before .before .before .before .before .before .before .before .before .used-by-others in
     let size = c .before .before .before .before .before .before .before .before .before .area in
     c .before .before .put-last2 .ensures
     ∙ put-old (args .kind) (args .slots) (args .store .now) (args .number) (long start) (start .pre .0) (args .words .now) _ (slot (c .before .before .before .before .before .before .before .before .before .before)) (size .result) (used .result .total) (found (c .before .before .before .before .before .before .before .before .before .before)) (size .ensures) (used .ensures .1) (c .before .before .before .before .before .before .move-down .ensures)
@@ -114,7 +114,7 @@ pub put-spec : {M : Type 1} → statement M
 put-spec =
     tie.close
     (tie.spec
-    in-use-requires
+    used-by-others-requires
     find-requires
     enum-known-f
     enum-told
@@ -122,10 +122,10 @@ put-spec =
     same-length
     returns
     area-requires
+    add-end
     cast-to
     add-move-down
     move-down-requires
-    sub-put-last
     put-last-requires-2
     same-length-2
     returns-2)
