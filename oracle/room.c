@@ -109,10 +109,13 @@ static size_t command_of(upload u) {
     return payload;
 }
 
+// The other store is as long as it may be.
+static size_t lent(int kind) { return kind == list.kind ? list.room : MOST; }
+
 static vpu_fed feed(size_t count) {
-    size_t lent[] = {list.kind == TEXTURE ? list.room : MOST, list.kind == MODEL ? list.room : MOST};
     return vpu_feed(state, words, count, memory.plane, VPU_PLANE_BYTES, memory.depth, VPU_PIXELS, memory.depth_f32,
-                    VPU_PIXELS, memory.command, COMMAND, memory.stores[0], lent[0], memory.stores[1], lent[1]);
+                    VPU_PIXELS, memory.command, COMMAND, memory.stores[TEXTURE], lent(TEXTURE), memory.stores[MODEL],
+                    lent(MODEL));
 }
 
 // One upload, which has to be taken or to have no room.
@@ -138,9 +141,8 @@ static void begin(int kind, size_t room) {
     list.kind = kind;
     list.room = room;
     list.count = list.total = 0;
-    size_t lent[] = {kind == TEXTURE ? room : MOST, kind == MODEL ? room : MOST};
     vpu_fed fed = vpu_reset(memory.plane, VPU_PLANE_BYTES, memory.depth, VPU_PIXELS, memory.depth_f32, VPU_PIXELS, memory.command,
-                            COMMAND, memory.stores[0], lent[0], memory.stores[1], lent[1]);
+                            COMMAND, memory.stores[TEXTURE], lent(TEXTURE), memory.stores[MODEL], lent(MODEL));
     wrong += fed.answer != 0;
     state = fed.state;
     memset(&memory, MARK, sizeof memory);
@@ -152,7 +154,7 @@ static void end(const char *what) {
     uploads = refused = 0;
 }
 
-// Ten sizes, and words that are too few for one more.
+// Ten sizes fit, and the spare words are too few for one more.
 static void limits(int kind, size_t spare) {
     begin(kind, 10 * UNITS[kind] + spare);
     sends(1, 4, true);

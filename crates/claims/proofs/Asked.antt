@@ -164,6 +164,6 @@ room-says size cs n new = go (not (holds n cs) && leb 64 (length cs)) (ltb size 
     go false true = refl
     go false false = refl
 
--- those words over a history: what was ever accepted under the number itself counts nothing
-pub others-words : (n : ℕ) (h : List Whole) → total (without n (cards (live h))) ≡ total (cards (live (without n h)))
-others-words n h = ap total (sym (cards-without n (live h)) ∙ ap cards (live-without n h))
+-- the words that count, over a history: what was ever accepted under the number itself counts nothing
+pub room-words : (n : ℕ) (h : List Whole) → total (without n (cards (live h))) ≡ total (cards (live (without n h)))
+room-words n h = ap total (sym (cards-without n (live h)) ∙ ap cards (live-without n h))

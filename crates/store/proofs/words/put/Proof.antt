@@ -72,7 +72,7 @@ returns c = c .before .before .put-last .ensures ∙ new-at (c .before .before .
 area-requires : tie.Need-area-requires
 area-requires c κs = search needs
 
--- the words of the others and those of the old upload are all that there are
+-- the words of the others and those of the old upload are all that there are, so they fit the store
 end-at : (c : tie.After-area) → c .before .before .before .before .before .used-by-others .result .total + c .area .result
     ≤ length (c .before .before .before .before .before .before .before .before .args .store .now)
 end-at c =
