@@ -1,44 +1,12 @@
 // The calls, each lent as much of the memories as its line says.
 use crate::ask;
-use crate::ask::Seen;
 use state::State;
 use trial::job;
 use trial::job::Plan;
 use trial::line::Line;
 use trial::line::MOST;
+use trial::tell::Seen;
 use words::least;
-ghost use Prim.Native.Nat.{_≤_};
-
-struct Lengths {
-    plane: usize,
-    depth: usize,
-    depth_f32: usize,
-    command: usize,
-    textures: usize,
-    models: usize,
-}
-
-// The lengths n, but no more than there is.
-fn cut(
-    n: [usize; 6],
-    plane: usize,
-    depth: usize,
-    depth_f32: usize,
-    command: usize,
-    textures: usize,
-    models: usize,
-) -> Lengths
-    ensures { λ r. ⌜ (r .plane ≤ plane) × (r .depth ≤ depth) × (r .«depth_f32» ≤ «depth_f32») × (r .command ≤ command) × (r .textures ≤ textures) × (r .models ≤ models) ⌝ }
-{
-    Lengths {
-        plane: least(n[0], plane),
-        depth: least(n[1], depth),
-        depth_f32: least(n[2], depth_f32),
-        command: least(n[3], command),
-        textures: least(n[4], textures),
-        models: least(n[5], models),
-    }
-}
 
 fn call(
     reset: bool,
@@ -85,7 +53,7 @@ pub fn lent(
     models: &mut [u32],
 ) -> Seen {
     let lengths = p.lengths;
-    let n = cut(
+    let n = job::cut(
         lengths,
         plane.len(),
         depth.len(),

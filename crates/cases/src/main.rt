@@ -92,27 +92,6 @@ fn run(
     }
 }
 
-fn tabled(
-    text: &mut [u8],
-    plane: &mut [u8],
-    depth: &mut [i32],
-    depth_f32: &mut [f32],
-    command: &mut [u32],
-    textures: &mut [u32],
-    models: &mut [u32],
-) {
-    let n = io::read_full(0, text);
-    run(
-        &text[..n],
-        plane,
-        depth,
-        depth_f32,
-        command,
-        textures,
-        models,
-    );
-}
-
 fn main() {
     let mut text = [0u8; 16384];
     let mut plane = [0u8; PLANE];
@@ -121,8 +100,9 @@ fn main() {
     let mut command = [0u32; COMMAND];
     let mut textures = [0u32; TEXTURES];
     let mut models = [0u32; MODELS];
-    tabled(
-        &mut text,
+    let n = io::read_full(0, &mut text);
+    run(
+        &text[..n],
         &mut plane,
         &mut depth,
         &mut depth_f32,

@@ -20,7 +20,7 @@ use Rattle.state.specs.State.{mostPayload}
 use Rattle.execute.specs.Commands.{Load, Told, told}
 use Rattle.execute.specs.Control.{Keep, Control, Step, Seen, verdictOf, keptOf, ended, execute}
 use Rattle.execute.proofs.Formed.{Passed, load-passed}
-use Rattle.vpu.specs.Framing.{dropped, begun, header, taken, gather, word, wordOn, run}
+use Rattle.run.specs.Framing.{dropped, begun, header, taken, gather, word, wordOn, run}
 use Rattle.claims.specs.Alike.{Alike}
 
 -- two controls that are seen alike, with what a begun command has yet to come within the command area

@@ -27,7 +27,7 @@ use Rattle.store.proofs.Laws.{cards-without, live-without}
 use Rattle.decide.specs.Verdicts.{checkedVerdict, texturedVerdict, recordsVerdict}
 use Rattle.draw.specs.Draws.{texturedStrokes, recordsStrokes}
 use Rattle.execute.specs.Paints as paints
-use Rattle.execute.specs.declared.command.Draw.the-variants as draw
+use Rattle.command.specs.declared.Draw.the-variants as draw
 use Rattle.execute.specs.Commands.{Look, Load, Told, tells, toldBy, textureIn, modelIn, textureVerdict, countVerdict, texturedPainted, told}
 use Rattle.execute.specs.Control.{Control, roomVerdict, execute}
 use Rattle.execute.proofs.Told.{told-as, command-of-17, command-of-18, command-of-19, command-of-1a}

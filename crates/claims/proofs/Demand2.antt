@@ -24,18 +24,19 @@ use Rattle.store.specs.Uploads.{Whole, find}
 use Rattle.flat.specs.Words.{signedAt, inReach, firstOut, flatVerdict, triOf}
 use Rattle.state.specs.State.{mostPayload}
 use Rattle.execute.specs.Paints.{Picture, flat, paintsOn}
-use Rattle.execute.specs.declared.command.Draw.the-variants as draw
-use Rattle.execute.specs.declared.command.Command.{Command}
-use Rattle.execute.specs.declared.command.Command.the-variants.{Sets, Loads, Paints, Unknown}
-use Rattle.execute.specs.Commands.{Look, Load, Told, tells, commandOf, loading, textureVerdict, countVerdict, textureIn, modelIn, flatPainted, toldBy, toldAs, told}
+use Rattle.command.specs.declared.Draw.the-variants as draw
+use Rattle.command.specs.declared.Command.{Command}
+use Rattle.command.specs.declared.Command.the-variants.{Sets, Loads, Paints, Unknown}
+use Rattle.command.specs.Command.{commandOf}
+use Rattle.execute.specs.Commands.{Look, Load, Told, tells, loading, textureVerdict, countVerdict, textureIn, modelIn, flatPainted, toldBy, toldAs, told}
 use Rattle.execute.proofs.Told.{told-as, command-of-12}
 use Rattle.execute.proofs.Painted.{painted-whole}
 use Rattle.execute.specs.Control as control
 use Rattle.execute.specs.Control.{Control, Step, Seen, stepped, verdictOf, keptOf}
-use Rattle.vpu.specs.Framing.{dropped, header, gather, word, wordOn, run}
+use Rattle.run.specs.Framing.{dropped, header, gather, word, wordOn, run}
 use Rattle.execute.specs.Kept.{Machine}
 use Rattle.vpu.specs.Calls.{Small, reset}
-use Rattle.vpu.proofs.Laws.{run-append}
+use Rattle.run.proofs.Laws.{run-append}
 use Rattle.claims.specs.Plain.{Past, history, accepted, asPast, plainStart}
 use Rattle.claims.specs.Runs.{resetOn, Call, afterAll, AllAllowed, after, feeds, own, sizes, plainAfter, plainAll}
 use Rattle.claims.specs.Original.{Vpu, new, inserted, kept, arm, execute, marked, waiting, await, pump, push, pushes}

@@ -21,10 +21,11 @@ use Rattle.store.proofs.Kept.{Keeps, keeps-none}
 use Rattle.state.specs.State.{fresh, wellFormed}
 use Rattle.state.proofs.Formed.{fresh-formed}
 use Rattle.execute.specs.Control.{Seen}
-use Rattle.execute.specs.Kept.{Machine, machine, asBox}
-use Rattle.vpu.specs.Framing.{run}
-use Rattle.vpu.specs.Calls.{Small, stateOf, Outcome, outcome, lengthsOk, cleared, reset}
-use Rattle.vpu.proofs.Laws.{parts-machine, lengths, reset-wrong, reset-done, feed-wrong, feed-malformed, feed-done, run-append}
+use Rattle.execute.specs.Kept.{Machine, machine, stateOf, asBox}
+use Rattle.run.specs.Framing.{run}
+use Rattle.vpu.specs.Calls.{Small, Outcome, outcome, lengthsOk, cleared, reset}
+use Rattle.run.proofs.Laws.{parts-machine, run-append}
+use Rattle.vpu.proofs.Laws.{lengths, reset-wrong, reset-done, feed-wrong, feed-malformed, feed-done}
 use Rattle.vpu.proofs.Returned.{returned-formed}
 use Rattle.claims.specs.Plain.{Past, asPast, plainStart}
 use Rattle.claims.specs.Runs as runs

@@ -14,9 +14,10 @@ use Rattle.store.specs.declared.Kind.{Kind}
 use Rattle.store.specs.declared.Kind.the-variants.{Texture}
 use Rattle.store.specs.declared.Room.the-variants.{Fits, NoWords}
 use Rattle.execute.specs.Control as control
-use Rattle.execute.specs.Commands.{Load, textureIn, told, commandOf, textureVerdict, paintedBy, clearPainted, flatPainted}
+use Rattle.command.specs.Command.{commandOf}
+use Rattle.execute.specs.Commands.{Load, textureIn, told, textureVerdict, paintedBy, clearPainted, flatPainted}
 use Rattle.flat.specs.Words.{flatVerdict, inReach}
-use Rattle.vpu.specs.Framing.{word, header, gather, run}
+use Rattle.run.specs.Framing.{word, header, gather, run}
 use Rattle.vpu.specs.Calls.{Small}
 use Rattle.claims.specs.Plain.{asPast, plainStart}
 use Rattle.claims.specs.Original.{new, arm, execute, await, push, pushes}

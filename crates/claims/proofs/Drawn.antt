@@ -37,10 +37,11 @@ use Rattle.settings.specs.Settings as settings
 use Rattle.store.specs.Slots.{wholeOf}
 use Rattle.execute.specs.Paints as paints
 use Rattle.execute.specs.Paints.{Picture, paintOn, paintsOn}
-use Rattle.execute.specs.Commands.{told, commandOf, textureVerdict, paintedBy, texturedPainted}
+use Rattle.command.specs.Command.{commandOf}
+use Rattle.execute.specs.Commands.{told, textureVerdict, paintedBy, texturedPainted}
 use Rattle.execute.specs.Control.{execute}
 use Rattle.execute.specs.Kept.{Machine}
-use Rattle.vpu.specs.Framing.{word, header, gather, run}
+use Rattle.run.specs.Framing.{word, header, gather, run}
 use Rattle.claims.specs.Plain.{asPast, plainStart}
 use Rattle.claims.specs.Thirteen.{InStore}
 use Rattle.claims.specs.Idle.{upload, triangle, draw, alphaOf}

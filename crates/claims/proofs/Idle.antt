@@ -20,11 +20,12 @@ use Rattle.store.specs.Uploads.{Whole, find}
 use Rattle.store.specs.Slots.{wholeOf}
 use Rattle.state.specs.State.{mostPayload, fresh}
 use Rattle.state.proofs.Formed.{fresh-formed}
-use Rattle.execute.specs.Commands.{Look, Load, textureIn, rgbaOf, told, commandOf, textureVerdict}
+use Rattle.command.specs.Command.{commandOf}
+use Rattle.execute.specs.Commands.{Look, Load, textureIn, rgbaOf, told, textureVerdict}
 use Rattle.execute.specs.Control.{Keep, execute}
-use Rattle.execute.specs.Kept.{Machine, machine, asBox}
-use Rattle.vpu.specs.Framing.{word, header, gather, run}
-use Rattle.vpu.specs.Calls.{stateOf, Outcome, reset}
+use Rattle.execute.specs.Kept.{Machine, machine, stateOf, asBox}
+use Rattle.run.specs.Framing.{word, header, gather, run}
+use Rattle.vpu.specs.Calls.{Outcome, reset}
 use Rattle.claims.specs.Calls.{Right}
 use Rattle.claims.specs.Alike.{Alike}
 use Rattle.claims.specs.Plain.{Past, past, history, asPast, plainStart}

@@ -9,7 +9,7 @@ use Rattle.stroke.proofs.Laws.{stroke-long}
 use Rattle.execute.specs.Paints as paints
 use Rattle.execute.specs.Paints.{Picture, Paint, seenOf, paintOn, paintsOn}
 use Rattle.execute.specs.Control.{Keep, Seen}
-use Rattle.vpu.specs.Framing.{word, wordOn, run}
+use Rattle.run.specs.Framing.{word, wordOn, run}
 
 -- a picture with as many bytes and as many depths as another
 pub record Long (p q : Picture) : Type 0 where

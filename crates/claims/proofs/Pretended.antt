@@ -19,12 +19,13 @@ use Rattle.store.specs.Uploads.{Whole, isSome, find}
 use Rattle.state.specs.declared.State.{State}
 use Rattle.state.specs.State.{wellFormed}
 use Rattle.execute.specs.Paints.{Picture, paintsOn}
-use Rattle.execute.specs.Commands.{Look, textureIn, told, commandOf, textureVerdict}
+use Rattle.command.specs.Command.{commandOf}
+use Rattle.execute.specs.Commands.{Look, textureIn, told, textureVerdict}
 use Rattle.execute.specs.Control.{Keep, Seen, execute}
-use Rattle.execute.specs.Kept.{Machine, machine, asBox}
-use Rattle.vpu.specs.Framing.{word, header, gather, run}
-use Rattle.vpu.specs.Calls.{stateOf, Outcome, outcome, reset}
-use Rattle.vpu.proofs.Laws.{run-append}
+use Rattle.execute.specs.Kept.{Machine, machine, stateOf, asBox}
+use Rattle.run.specs.Framing.{word, header, gather, run}
+use Rattle.vpu.specs.Calls.{Outcome, outcome, reset}
+use Rattle.run.proofs.Laws.{run-append}
 use Rattle.claims.specs.Calls.{Right}
 use Rattle.claims.specs.Alike.{Alike}
 use Rattle.claims.specs.Plain.{Past, past, history, accepted, asPast, plainStart}

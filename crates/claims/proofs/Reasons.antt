@@ -24,13 +24,14 @@ use Rattle.decide.specs.Corners.{colorAt, firstOf, corner, normalMatrixOf, corn
 use Rattle.decide.specs.Verdicts.{invertibleOf, heldOf, finite4, reachedOf, eachOf, inputsOf, plainVertex, plainOf, transformedBy, transformedVerdict, texturedBy, checkedVerdict, texturedVerdict, triangleOf, recordsVerdict}
 use Rattle.judge.specs.Judge.{modelVerdict}
 use Rattle.store.specs.declared.Kind.the-variants.{Texture, Model}
-use Rattle.execute.specs.declared.command.Setting.{Setting}
-use Rattle.execute.specs.declared.command.Setting.the-variants as setting
-use Rattle.execute.specs.declared.command.Draw.{Draw}
-use Rattle.execute.specs.declared.command.Draw.the-variants as draw
-use Rattle.execute.specs.declared.command.Command.{Command}
-use Rattle.execute.specs.declared.command.Command.the-variants.{Sets, Loads, Paints, Unknown}
-use Rattle.execute.specs.Commands.{Look, Painted, refused, unknown, wrongLength, commandOf, settingWords, setBy, settingsAfter, textureVerdict, countVerdict, clearPainted, flatPainted, transformedPainted, texturedPainted, modelPainted, drawWords, drawnBy, paintedBy, toldAs, told}
+use Rattle.command.specs.declared.Setting.{Setting}
+use Rattle.command.specs.declared.Setting.the-variants as setting
+use Rattle.command.specs.declared.Draw.{Draw}
+use Rattle.command.specs.declared.Draw.the-variants as draw
+use Rattle.command.specs.declared.Command.{Command}
+use Rattle.command.specs.declared.Command.the-variants.{Sets, Loads, Paints, Unknown}
+use Rattle.command.specs.Command.{commandOf, settingWords, drawWords}
+use Rattle.execute.specs.Commands.{Look, Painted, refused, unknown, wrongLength, setBy, settingsAfter, textureVerdict, countVerdict, clearPainted, flatPainted, transformedPainted, texturedPainted, modelPainted, drawnBy, paintedBy, toldAs, told}
 use Rattle.execute.proofs.Told.{told-as}
 use Rattle.laws.proofs.Bools.{either}
 

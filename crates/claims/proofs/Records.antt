@@ -17,11 +17,11 @@ use Rattle.store.specs.Uploads.{Whole, find}
 use Rattle.decide.specs.Verdicts.{texturedVerdict, recordsVerdict}
 use Rattle.draw.specs.Draws.{texturedStrokes, recordsStrokes, hasIn}
 use Rattle.execute.specs.Paints.{stroked}
-use Rattle.execute.specs.declared.command.Draw.the-variants as draw
+use Rattle.command.specs.declared.Draw.the-variants as draw
 use Rattle.execute.specs.Commands.{Look, Told, tells, toldBy, texturedPainted, told}
 use Rattle.execute.proofs.Told.{told-as, command-of-19}
 use Rattle.execute.proofs.Painted.{painted-whole}
-use Rattle.vpu.specs.Framing.{run}
+use Rattle.run.specs.Framing.{run}
 use Rattle.claims.specs.Alike.{Passing, Alike}
 use Rattle.claims.specs.Asked.{Draws, recordAt, firstRefused, allPainted, recordTold, Records}
 use Rattle.claims.specs.Plain.{Past, history, accepted, asPast, plainStart}

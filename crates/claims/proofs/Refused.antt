@@ -28,13 +28,14 @@ use Rattle.judge.specs.Judge.{modelVerdict}
 use Rattle.draw.specs.Draws.{transformedStrokes, heldStrokes, texturedStrokes, recordsStrokes, modelStrokes, hasIn}
 use Rattle.execute.specs.Paints as paints
 use Rattle.execute.specs.Paints.{paintsOn}
-use Rattle.execute.specs.declared.command.Setting.{Setting}
-use Rattle.execute.specs.declared.command.Setting.the-variants as setting
-use Rattle.execute.specs.declared.command.Draw.{Draw}
-use Rattle.execute.specs.declared.command.Draw.the-variants as draw
-use Rattle.execute.specs.declared.command.Command.{Command}
-use Rattle.execute.specs.declared.command.Command.the-variants.{Sets, Loads, Paints, Unknown}
-use Rattle.execute.specs.Commands.{Look, Load, Told, tells, Painted, refused, wrongLength, commandOf, settingWords, setBy, settingsAfter, textureVerdict, countVerdict, loading, textureIn, modelIn, clearPaints, clearPainted, flatPainted, transformedPainted, texturedPainted, modelPainted, drawWords, drawnBy, paintedBy, toldBy, toldAs, told}
+use Rattle.command.specs.declared.Setting.{Setting}
+use Rattle.command.specs.declared.Setting.the-variants as setting
+use Rattle.command.specs.declared.Draw.{Draw}
+use Rattle.command.specs.declared.Draw.the-variants as draw
+use Rattle.command.specs.declared.Command.{Command}
+use Rattle.command.specs.declared.Command.the-variants.{Sets, Loads, Paints, Unknown}
+use Rattle.command.specs.Command.{commandOf, settingWords, drawWords}
+use Rattle.execute.specs.Commands.{Look, Load, Told, tells, Painted, refused, wrongLength, setBy, settingsAfter, textureVerdict, countVerdict, loading, textureIn, modelIn, clearPaints, clearPainted, flatPainted, transformedPainted, texturedPainted, modelPainted, drawnBy, paintedBy, toldBy, toldAs, told}
 use Rattle.execute.specs.Control.{Keep, Control, Seen, roomVerdict, verdictOf, keptOf, execute, executed}
 use Rattle.execute.specs.Kept.{Box, box, asBox}
 use Rattle.execute.proofs.Told.{told-as, command-of-04, command-of-1b, clear-opcode, model-opcode}

@@ -19,7 +19,7 @@ use Rattle.state.specs.declared.State.{State}
 use Rattle.state.specs.State.{mostPayload, wellFormed}
 use Rattle.execute.specs.Control.{Keep, Control, Step, Seen, execute}
 use Rattle.execute.specs.Kept.{machine, asBox}
-use Rattle.vpu.specs.Framing.{begun, dropped, header, taken, gather, still, word, wordOn, run}
+use Rattle.run.specs.Framing.{begun, dropped, header, taken, gather, still, word, wordOn, run}
 use Rattle.vpu.specs.Calls.{Outcome, lengthsOk, feed}
 use Rattle.claims.specs.Status.{Stays, verdictIn}
 

@@ -28,11 +28,12 @@ use Rattle.flat.proofs.Cases as cases
 use Rattle.flat.proofs.Cases.{corner}
 use Rattle.execute.specs.Paints as paints
 use Rattle.execute.specs.Paints.{Picture, picture, paintOn, paintsOn}
-use Rattle.execute.specs.Commands.{told, commandOf, textureVerdict, paintedBy, clearPainted, clearPaints, flatPainted, rgbaOf}
+use Rattle.command.specs.Command.{commandOf}
+use Rattle.execute.specs.Commands.{told, textureVerdict, paintedBy, clearPainted, clearPaints, flatPainted, rgbaOf}
 use Rattle.execute.specs.Control.{Seen, execute}
-use Rattle.execute.specs.Kept.{Shelf, box, Machine, asBox}
-use Rattle.vpu.specs.Framing.{word, header, gather, run}
-use Rattle.vpu.specs.Calls.{stateOf, Lengths, reset}
+use Rattle.execute.specs.Kept.{Shelf, box, Machine, asBox, stateOf}
+use Rattle.run.specs.Framing.{word, header, gather, run}
+use Rattle.vpu.specs.Calls.{Lengths, reset}
 use Rattle.claims.specs.Plain.{Past, asPast, plainFresh, plainStart}
 use Rattle.claims.specs.Runs.{feedOn, afterAll, AllAllowed}
 use Rattle.claims.specs.Thirteen as table

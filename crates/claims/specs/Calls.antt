@@ -10,7 +10,7 @@ use Rattle.screen.specs.Plane.{Answered, width, height, planeBytes, nothing, fo
 use Rattle.state.specs.State.{fresh, wellFormed}
 use Rattle.state.specs.declared.State.{State}
 use Rattle.execute.specs.Kept.{machine, asBox}
-use Rattle.vpu.specs.Framing.{run}
+use Rattle.run.specs.Framing.{run}
 use Rattle.vpu.specs.Calls.{Outcome, Lengths, cleared}
 
 -- P, D, F, C, T and M: what is lent

@@ -10,7 +10,7 @@ use Rattle.store.specs.declared.Room.the-variants.{Fits}
 use Rattle.flat.specs.Words.{signedAt}
 use Rattle.execute.specs.Commands.{Load, told}
 use Rattle.execute.specs.Control.{Control, Seen}
-use Rattle.vpu.specs.Framing.{taken, wordOn}
+use Rattle.run.specs.Framing.{taken, wordOn}
 use Rattle.vpu.specs.Calls.{Small}
 use Rattle.claims.specs.Plain.{Past, asPast, plainStart}
 use Rattle.claims.specs.Runs.{Call, feeds, own}

@@ -19,9 +19,9 @@ use Rattle.state.specs.State.{wellFormed}
 use Rattle.state.specs.declared.State.{State}
 use Rattle.execute.specs.Commands.{Load, textureIn}
 use Rattle.execute.specs.Control.{Keep, Control}
-use Rattle.execute.specs.Kept.{Machine, machine, asBox}
-use Rattle.vpu.specs.Framing.{run}
-use Rattle.vpu.specs.Calls.{Small, stateOf, Outcome, outcome, lengthsOk, feed, reset}
+use Rattle.execute.specs.Kept.{Machine, machine, stateOf, asBox}
+use Rattle.run.specs.Framing.{run}
+use Rattle.vpu.specs.Calls.{Small, Outcome, outcome, lengthsOk, feed, reset}
 use Rattle.claims.specs.Plain.{plainStart}
 use Rattle.claims.specs.Alike.{Passing}
 

@@ -8,9 +8,9 @@ use lib.ListN.{length}
 use Rattle.store.specs.declared.Kind.{Kind}
 use Rattle.store.specs.declared.Kind.the-variants.{Texture, Model}
 use Rattle.execute.specs.Control.{Seen}
-use Rattle.execute.specs.Kept.{Machine, machine}
-use Rattle.vpu.specs.Framing.{run}
-use Rattle.vpu.specs.Calls.{Small, stateOf, Outcome, feed, reset}
+use Rattle.execute.specs.Kept.{Machine, machine, stateOf}
+use Rattle.run.specs.Framing.{run}
+use Rattle.vpu.specs.Calls.{Small, Outcome, feed, reset}
 use Rattle.claims.specs.Plain.{Past, asPast, plainStart}
 
 -- ---- a call, on a state with its buffers

@@ -18,10 +18,11 @@ use Rattle.verdict.specs.declared.Verdict.{Verdict}
 use Rattle.verdict.specs.declared.Verdict.the-variants.{Done, Refused}
 use Rattle.state.specs.declared.State.{State}
 use Rattle.execute.specs.Paints.{picture, paintsOn}
-use Rattle.execute.specs.declared.command.Setting.{Setting}
-use Rattle.execute.specs.declared.command.Draw.{Draw}
-use Rattle.execute.specs.declared.command.Command.the-variants.{Sets, Loads, Paints, Unknown}
-use Rattle.execute.specs.Commands.{Load, Told, commandOf, unknown, loading, settingsAfter, textureVerdict, countVerdict, textureIn, modelIn, paintedBy, told}
+use Rattle.command.specs.declared.Setting.{Setting}
+use Rattle.command.specs.declared.Draw.{Draw}
+use Rattle.command.specs.declared.Command.the-variants.{Sets, Loads, Paints, Unknown}
+use Rattle.command.specs.Command.{commandOf}
+use Rattle.execute.specs.Commands.{Load, Told, unknown, loading, settingsAfter, textureVerdict, countVerdict, textureIn, modelIn, paintedBy, told}
 use Rattle.execute.specs.Control.{Control, roomVerdict, verdictOf, keptOf, execute, executed}
 use Rattle.execute.specs.Kept.{Shelf, shelf, roomOn, putOn, Shelved, shelved, keptOn, loadedOn, lookOn, Box, box, shelfOf, putBox, asBox, Machine, controlOf, machine, endedState}
 

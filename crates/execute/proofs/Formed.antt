@@ -27,11 +27,12 @@ use Rattle.store.proofs.Walk.{length-slotsOf}
 use Rattle.store.proofs.Held.{Sized, ok-formed, ok-rep, view-told, length-after}
 use Rattle.store.proofs.Kept.{upload-ok}
 use Rattle.state.specs.State.{mostPayload}
-use Rattle.execute.specs.declared.command.Setting.{Setting}
-use Rattle.execute.specs.declared.command.Setting.the-variants as setting
-use Rattle.execute.specs.declared.command.Command.{Command}
-use Rattle.execute.specs.declared.command.Command.the-variants.{Sets, Loads, Paints, Unknown}
-use Rattle.execute.specs.Commands.{Look, Load, commandOf, ofLength, settingsAfter, textureIn, modelIn, textureVerdict, countVerdict, loadTold, toldAs, told}
+use Rattle.command.specs.declared.Setting.{Setting}
+use Rattle.command.specs.declared.Setting.the-variants as setting
+use Rattle.command.specs.declared.Command.{Command}
+use Rattle.command.specs.declared.Command.the-variants.{Sets, Loads, Paints, Unknown}
+use Rattle.command.specs.Command.{commandOf}
+use Rattle.execute.specs.Commands.{Look, Load, ofLength, settingsAfter, textureIn, modelIn, textureVerdict, countVerdict, loadTold, toldAs, told}
 use Rattle.execute.specs.Control.{Control, keptOf, execute}
 use Rattle.laws.proofs.Bools.{either}
 use Rattle.execute.specs.Kept.{Shelf, Formed, Box, roomOn, putOn, shelfOf, putBox, asBox}

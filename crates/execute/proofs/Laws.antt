@@ -28,9 +28,10 @@ use Rattle.store.specs.declared.Stored.{Stored}
 use Rattle.store.specs.Uploads.{Whole}
 use Rattle.store.specs.Slots.{areaOf, sidesOk, isFits, Uploaded}
 use Rattle.state.specs.State.{mostPayload}
-use Rattle.execute.specs.declared.command.Setting.{Setting}
+use Rattle.command.specs.declared.Setting.{Setting}
 use Rattle.execute.specs.Paints.{picture, paintOn, paintsOn}
-use Rattle.execute.specs.Commands.{Load, wrongLength, ofLength, settingWords, setBy, settingsAfter, textureVerdict, countVerdict, rgbaOf, clearPaints, clearPainted}
+use Rattle.command.specs.Command.{settingWords}
+use Rattle.execute.specs.Commands.{Load, wrongLength, ofLength, setBy, settingsAfter, textureVerdict, countVerdict, rgbaOf, clearPaints, clearPainted}
 use Rattle.execute.specs.Control.{roomVerdict}
 use Rattle.execute.specs.Kept.{Shelf, shelf, shelved, roomOn, putOn, keptOn, loadedOn}
 

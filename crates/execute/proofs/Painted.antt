@@ -13,9 +13,10 @@ use Rattle.stroke.specs.Strokes.{sheet, Stroke, strokeOn, strokesOn}
 use Rattle.decide.specs.Corners.{wordsOf}
 use Rattle.verdict.specs.declared.Verdict.{Verdict}
 use Rattle.verdict.specs.declared.Verdict.the-variants.{Done, Refused}
-use Rattle.execute.specs.declared.command.Draw.{Draw}
+use Rattle.command.specs.declared.Draw.{Draw}
 use Rattle.execute.specs.Paints.{Picture, picture, seenOf, withSeen, stroked, paintOn, paintsOn}
-use Rattle.execute.specs.Commands.{Look, wrongLength, refused, flatPainted, drawWords, drawnBy, paintedBy}
+use Rattle.command.specs.Command.{drawWords}
+use Rattle.execute.specs.Commands.{Look, wrongLength, refused, flatPainted, drawnBy, paintedBy}
 
 module _ (look : Look) (s : Settings) (d : Draw) (p : List ℕ) where
   pub painted-whole : length p ≡ drawWords d → paintedBy look s d p ≡ drawnBy look s d p

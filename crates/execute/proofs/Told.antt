@@ -8,11 +8,12 @@ use borrow.Author.Tests.{eqb-true}
 use Rattle.settings.specs.declared.Settings.{Settings}
 use Rattle.store.specs.declared.Kind.{Kind}
 use Rattle.store.specs.declared.Kind.the-variants.{Texture, Model}
-use Rattle.execute.specs.declared.command.Setting.{Setting}
-use Rattle.execute.specs.declared.command.Draw.the-variants as draw
-use Rattle.execute.specs.declared.command.Command.{Command}
-use Rattle.execute.specs.declared.command.Command.the-variants.{Sets, Loads, Paints, Unknown}
-use Rattle.execute.specs.Commands.{Look, commandOf, toldAs, told}
+use Rattle.command.specs.declared.Setting.{Setting}
+use Rattle.command.specs.declared.Draw.the-variants as draw
+use Rattle.command.specs.declared.Command.{Command}
+use Rattle.command.specs.declared.Command.the-variants.{Sets, Loads, Paints, Unknown}
+use Rattle.command.specs.Command.{commandOf}
+use Rattle.execute.specs.Commands.{Look, toldAs, told}
 use Rattle.execute.specs.Control.{Keep, Control, execute}
 
 pub told-as : (look : Look) (s : Settings) (op : ℕ) (p : List ℕ) {c : Command} → commandOf op ≡ c → told look s op p ≡ toldAs look s c p

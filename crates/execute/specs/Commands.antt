@@ -1,6 +1,6 @@
--- The commands: what an opcode is, and what a payload says. Section 3 of docs/RULES.md; `execute` of the original. No definition here sees the picture (rule 3.17). Definitions only.
+-- The commands: what a payload says. What an opcode is, is in the crate `command`. Section 3 of docs/RULES.md; `execute` of the original. No definition here sees the picture (rule 3.17). Definitions only.
 use Prim.Native.Nat.{ℕ, _+_, _/_, _%_}
-use mathlib.Core.Bool.{Bool, true, false, cond}
+use mathlib.Core.Bool.{Bool, cond}
 use mathlib.Core.Option.{Option, none, some}
 use mathlib.Core.List.{List, [], _∷_, _++_, map}
 use lib.Dec.{eqb, ltb}
@@ -22,31 +22,14 @@ use Rattle.stroke.specs.Strokes.{Stroke}
 use Rattle.decide.specs.Verdicts.{transformedVerdict, texturedVerdict}
 use Rattle.judge.specs.Judge.{modelVerdict}
 use Rattle.draw.specs.Draws.{transformedStrokes, texturedStrokes, modelStrokes, hasIn}
-use Rattle.execute.specs.declared.command.Setting.{Setting}
-use Rattle.execute.specs.declared.command.Setting.the-variants as setting
-use Rattle.execute.specs.declared.command.Draw.{Draw}
-use Rattle.execute.specs.declared.command.Draw.the-variants as draw
-use Rattle.execute.specs.declared.command.Command.{Command}
-use Rattle.execute.specs.declared.command.Command.the-variants.{Sets, Loads, Paints, Unknown}
+use Rattle.command.specs.declared.Setting.{Setting}
+use Rattle.command.specs.declared.Setting.the-variants as setting
+use Rattle.command.specs.declared.Draw.{Draw}
+use Rattle.command.specs.declared.Draw.the-variants as draw
+use Rattle.command.specs.declared.Command.{Command}
+use Rattle.command.specs.declared.Command.the-variants.{Sets, Loads, Paints, Unknown}
+use Rattle.command.specs.Command.{commandOf, settingWords, drawWords}
 use Rattle.execute.specs.Paints.{Paint, fill, far, flat, stroked}
-
--- ---- rule 3.1: what an opcode is. No other definition of the machine tells commands apart by it. 04 clears, 01, 02 and 15 set mode, matrix and light, 12 is flat,
--- 14 and 16 are transformed, 16 with normals; 18 and 19 textured, 19 with normals; 17 and 1A load a texture and a model, and 1B draws one; any other is unknown
-unfoldable pub commandOf : ℕ → Command
-commandOf op =
-    cond (eqb op 0x01) (Sets setting.Mode)
-    (cond (eqb op 0x02) (Sets setting.Matrix)
-    (cond (eqb op 0x04) (Paints draw.Clear)
-    (cond (eqb op 0x12) (Paints draw.Flat)
-    (cond (eqb op 0x14) (Paints (draw.Transformed false))
-    (cond (eqb op 0x15) (Sets setting.Light)
-    (cond (eqb op 0x16) (Paints (draw.Transformed true))
-    (cond (eqb op 0x17) (Loads Texture)
-    (cond (eqb op 0x18) (Paints (draw.Textured false))
-    (cond (eqb op 0x19) (Paints (draw.Textured true))
-    (cond (eqb op 0x1a) (Loads Model)
-    (cond (eqb op 0x1b) (Paints draw.Model)
-    Unknown)))))))))))
 
 -- what a draw may ask: the upload of a kind that is held under a number, if one is
 abbrev pub Look : Type 0
@@ -79,11 +62,6 @@ abbrev pub ofLength : {A : Type 0} → ℕ → List ℕ → A → A → A
 ofLength n p a b = cond (eqb (length p) n) a b
 
 -- ---- those that set: 01, 2 words: (0, 0..1) shading mode; (1, 0..1) lighting. 02, 17 words: matrix 0..2 and 16 floats. 15, 17 words: light 0..7, switch 0..1, 15 floats
-abbrev pub settingWords : Setting → ℕ
-settingWords setting.Mode = 2
-settingWords setting.Matrix = 17
-settingWords setting.Light = 17
-
 abbrev pub setBy : Settings → Setting → List ℕ → Changed
 setBy s setting.Mode p = changed (modeVerdict p) (withMode s p) s
 setBy s setting.Matrix p = changed (matrixVerdict p) (withMatrix s p) s
@@ -169,14 +147,6 @@ texturedPainted look s normal p =
 unfoldable pub modelPainted : Look → Settings → List ℕ → Painted
 modelPainted look s p =
     strokedBy (modelVerdict p (hasIn (look Texture)) (s .matrices) (look Model (wordAt p 0))) (modelStrokes s p (look Texture) (look Model (wordAt p 0)))
-
--- rule 3.2
-abbrev pub drawWords : Draw → ℕ
-drawWords draw.Clear = 3
-drawWords draw.Flat = 11
-drawWords (draw.Transformed normal) = cond normal 21 12
-drawWords (draw.Textured normal) = cond normal 29 20
-drawWords draw.Model = 2
 
 abbrev pub drawnBy : Look → Settings → Draw → List ℕ → Painted
 drawnBy look s draw.Clear p = clearPainted p

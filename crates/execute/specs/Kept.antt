@@ -107,6 +107,18 @@ controlOf s C T M = record {
 abbrev pub machine : State → List ℕ → List ℤ → List Float → List ℕ → List ℕ → List ℕ → Machine
 machine s P D F C T M = record { control = controlOf s C T M; picture = picture P D F }
 
+-- the state in a machine
+abbrev pub stateOf : Machine → State
+stateOf m = record {
+  settings = m .control .settings;
+  textures = m .control .box .textures .slots;
+  models = m .control .box .models .slots;
+  opcode = m .control .opcode;
+  gathered = m .control .box .gathered;
+  wanted = m .control .wanted;
+  notes = m .control .notes;
+}
+
 -- the state after a command that came to v
 abbrev pub endedState : State → Settings → List Slot → List Slot → Verdict → State
 endedState s settings textures models v = record {

@@ -1,7 +1,6 @@
 // The command whose payload is complete: what it is (`command`), and what it does. One that sets is
 // lent the command area, one that loads the stores too, and one that paints (`paint`) the picture.
 pub mod clear;
-pub mod command;
 pub mod paint;
 pub mod set;
 pub mod upload;
@@ -19,8 +18,8 @@ ghost use Prim.Native.Nat.{ℕ, _≤_};
 ghost use lib.ListN.{length};
 ghost use Rattle.store.specs.declared.Kind.the-variants.{Texture, Model};
 ghost use Rattle.state.specs.State.{mostPayload};
-ghost use Rattle.execute.specs.declared.command.Command.the-variants.{Sets, Loads};
-ghost use Rattle.execute.specs.Commands.{commandOf};
+ghost use Rattle.command.specs.declared.Command.the-variants.{Sets, Loads};
+ghost use Rattle.command.specs.Command.{commandOf};
 ghost use Rattle.execute.specs.Control as control;
 ghost use Rattle.execute.specs.Kept.{Formed, asBox, controlOf, endedState};
 

@@ -1,7 +1,7 @@
 // The commands that paint: 04, 12, 14, 16, 18, 19 and 1B.
 use crate::clear::clear;
-use crate::command::Draw;
-use crate::command::draw_words;
+use command::Draw;
+use command::draw_words;
 use settings::Settings;
 use store::SLOTS;
 use store::Slot;

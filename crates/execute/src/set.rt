@@ -1,6 +1,6 @@
 // 01, 02 and 15: what the settings become.
-use crate::command::Setting;
-use crate::command::setting_words;
+use command::Setting;
+use command::setting_words;
 use settings::Changed;
 use settings::Settings;
 use verdict::wrong_length;

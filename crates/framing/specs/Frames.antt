@@ -1,4 +1,4 @@
--- The framing's four numbers by themselves, as the code carries them through payload words; `vpu/specs/Framing.antt` is what a word does. Definitions only.
+-- The framing's four numbers by themselves, as the code carries them through payload words; `run/specs/Framing.antt` is what a word does. Definitions only.
 use Prim.Native.Nat.{ℕ, _+_, _-_, _/_, _%_, min}
 use mathlib.Core.Bool.{Bool, false, cond, not}
 use mathlib.Core.List.{List}

@@ -71,9 +71,9 @@ pub fn well_formed(state: State, texture_len: usize, model_len: usize) -> bool
         return false;
     }
     let textures = state.textures;
-    if !store::formed::slots_ok(Kind::Texture, textures, texture_len) {
+    if !formed::slots_ok(Kind::Texture, textures, texture_len) {
         return false;
     }
     let models = state.models;
-    store::formed::slots_ok(Kind::Model, models, model_len)
+    formed::slots_ok(Kind::Model, models, model_len)
 }

@@ -2,8 +2,6 @@ pub mod Over
 pub mod Laws
 pub mod Walk
 pub mod Mapped
-pub mod Split
-pub mod Marks
 pub mod Held
 pub mod Moved
 pub mod Kept

@@ -15,7 +15,6 @@ use Rattle.laws.proofs.Bools.{and-left, and-right}
 use Rattle.store.proofs.Laws.{without-append, length-without, total-append, total-without}
 use Rattle.store.specs.Uploads.{Card, without, holds, total}
 use Rattle.store.specs.Slots.{areaOf, sidesOk, noSlot, slotOf, place, slotsOf, cardAt, told, slotFor, stays, fresh, zeroSlot, unused, heldOk, slotsOk}
-use Rattle.store.specs.Tests.{laidOk}
 use Rattle.store.specs.declared.Slot.{Slot}
 use Rattle.store.specs.declared.Kind.{Kind}
 use Rattle.store.specs.declared.Kind.the-variants.{Texture, Model}
@@ -133,7 +132,7 @@ module _ (ss : List Slot) (i : ℕ) (here : i < length ss) where
       go true true e = rw e (append-nil (kept k n i ss))
       go true false e = rw e
 
-  -- fresh_from, unused_from, laid_ok
+  -- the crate formed: fresh_from, unused_from
   pub fresh-end : (n : ℕ) → s .held ≡ false → fresh n (drop i ss) ≡ true
   fresh-end n a = rw (slots-from, a)
 
@@ -145,18 +144,6 @@ module _ (ss : List Slot) (i : ℕ) (here : i < length ss) where
 
   pub unused-is : unused (drop i ss) ≡ cond (zeroSlot s) (unused (drop (i + 1) ss)) false
   unused-is = ap unused slots-from
-
-  pub laid-unheld : (k : Kind) (size at : ℕ) → s .held ≡ false → laidOk k size at (drop i ss) ≡ (unused (drop i ss) && leb at size)
-  laid-unheld k size at a = rw (slots-from, a)
-
-  -- something is wrong with the slot at i
-  pub laid-no : (k : Kind) (size at : ℕ) → s .held ≡ true → (sidesOk k (s .width) (s .height) && eqb (s .start) at) ≡ false → laidOk k size at (drop i ss) ≡ false
-  laid-no k size at a e = rw (slots-from, a, e)
-
-  -- nothing is: the slots after it are left to be tested
-  pub laid-next : (k : Kind) (size at : ℕ) → s .held ≡ true → sidesOk k (s .width) (s .height) ≡ true → s .start ≡ at
-      → laidOk k size at (drop i ss) ≡ laidOk k size (at + areaOf k (s .width) (s .height)) (drop (i + 1) ss)
-  laid-next k size at h a b = rw (slots-from, h, a, eq-eqb _ _ b)
 
   -- the whole test of slots
   pub ok-unheld : (k : Kind) (size at : ℕ) → s .held ≡ false → slotsOk k size at (drop i ss) ≡ (unused (drop i ss) && leb at size)

@@ -1,3 +1,2 @@
 pub mod Uploads
 pub mod Slots
-pub mod Tests

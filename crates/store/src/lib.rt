@@ -1,7 +1,7 @@
 // The stores of uploads: 64 slots for textures and 64 for models, each over a lent run of words.
-// Section 8 of docs/RULES.md. What a store decides (room, slots afterwards, well-formedness) is in
-// `slots` and `formed` and needs only the slots and the store's length; `words` moves the words.
-pub mod formed;
+// Section 8 of docs/RULES.md. What a store decides (room, slots afterwards) is in `slots` and needs
+// only the slots and the store's length; `words` moves the words. Whether a store is well formed is
+// tested in the crate `formed`.
 pub mod slots;
 pub mod words;
 

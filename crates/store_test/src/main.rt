@@ -121,11 +121,11 @@ fn upload(
 ) -> [Slot; SLOTS]
     requires { ⌜ length (now store) ≤ 4096 ⌝ }
 {
-    if !store::formed::slots_ok(kind, slots, store.len()) {
+    if !formed::slots_ok(kind, slots, store.len()) {
         io::write_all(STDOUT_FILENO, b"malformed\n");
         return slots;
     }
-    if !store::formed::sides_ok(kind, width, height) {
+    if !formed::sides_ok(kind, width, height) {
         io::write_all(STDOUT_FILENO, b"sides\n");
         return slots;
     }

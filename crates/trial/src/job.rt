@@ -6,6 +6,8 @@ use settings::Settings;
 use state::State;
 use store::SLOTS;
 use store::Slot;
+use words::least;
+ghost use Prim.Native.Nat.{_≤_};
 
 pub struct Plan {
     // A reset, which takes neither state nor words, or a feed.
@@ -51,6 +53,37 @@ pub fn of(l: Line) -> Plan {
         k += 1;
     }
     p
+}
+
+pub struct Lengths {
+    pub plane: usize,
+    pub depth: usize,
+    pub depth_f32: usize,
+    pub command: usize,
+    pub textures: usize,
+    pub models: usize,
+}
+
+// The lengths n, but no more than there is.
+pub fn cut(
+    n: [usize; 6],
+    plane: usize,
+    depth: usize,
+    depth_f32: usize,
+    command: usize,
+    textures: usize,
+    models: usize,
+) -> Lengths
+    ensures { λ r. ⌜ (r .plane ≤ plane) × (r .depth ≤ depth) × (r .«depth_f32» ≤ «depth_f32») × (r .command ≤ command) × (r .textures ≤ textures) × (r .models ≤ models) ⌝ }
+{
+    Lengths {
+        plane: least(n[0], plane),
+        depth: least(n[1], depth),
+        depth_f32: least(n[2], depth_f32),
+        command: least(n[3], command),
+        textures: least(n[4], textures),
+        models: least(n[5], models),
+    }
 }
 
 fn with_light(s: Settings, op: Op) -> Settings {

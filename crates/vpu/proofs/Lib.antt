@@ -1,4 +1,3 @@
-pub mod Whole
 pub mod Laws
 pub mod Once
 pub mod Returned

@@ -16,7 +16,7 @@ use Rattle.vpu.specs.declared.Answer.{Answer}
 use Rattle.vpu.specs.declared.Answer.the-variants as answer
 use Rattle.vpu.specs.declared.Fed.{Fed}
 use Rattle.vpu.specs.Calls.{Outcome, outcome, numberOf}
-use Rattle.vpu.proofs.Laws.{Same, machine-parts}
+use Rattle.run.proofs.Laws.{Same, machine-parts}
 use Rattle.vpu.proofs.reset.Kinds as reset
 use Rattle.vpu.proofs.reset.Reads as reset-reads
 use Rattle.vpu.proofs.feed.Kinds as feed

@@ -16,10 +16,10 @@ use Rattle.state.specs.State.{mostPayload, begunOk, wellFormed}
 use Rattle.state.specs.declared.State.{State}
 use Rattle.state.proofs.Formed.{parts, formed, begun-made, begun-nothing, begun-idle, begun-op}
 use Rattle.execute.specs.Control.{Control, Step, execute}
-use Rattle.execute.specs.Kept.{Box, asBox, Machine, machine}
+use Rattle.execute.specs.Kept.{Box, asBox, Machine, machine, stateOf}
 use Rattle.execute.proofs.Formed.{Stands, execute-stands, execute-settings, execute-idle}
-use Rattle.vpu.specs.Framing.{still, dropped, begun, header, taken, gather, word, wordOn, run}
-use Rattle.vpu.specs.Calls.{Small, stateOf, Outcome, outcome, lengthsOk, feed}
+use Rattle.run.specs.Framing.{still, dropped, begun, header, taken, gather, word, wordOn, run}
+use Rattle.vpu.specs.Calls.{Small, Outcome, outcome, lengthsOk, feed}
 use Rattle.vpu.proofs.Laws.{lengths}
 
 -- a control that is well formed, with stores of t and m words

@@ -14,7 +14,7 @@ use Rattle.store.specs.Uploads.{mostWords}
 use Rattle.state.specs.State.{mostPayload, fresh, wellFormed}
 use Rattle.state.specs.declared.State.{State}
 use Rattle.execute.specs.Kept.{Machine, machine, asBox}
-use Rattle.vpu.specs.Framing.{run}
+use Rattle.run.specs.Framing.{run}
 use Rattle.vpu.specs.declared.Answer.{Answer}
 use Rattle.vpu.specs.declared.Answer.the-variants.{Done, WrongLength, Malformed}
 
@@ -28,18 +28,6 @@ numberOf Malformed = 2
 abbrev pub Small : List ℕ → Type 0
 Small [] = Unit {0}
 Small (w ∷ ws) = (w < 4294967296) × Small ws
-
--- the state in a machine, which is a state with its lent memory
-abbrev pub stateOf : Machine → State
-stateOf m = record {
-  settings = m .control .settings;
-  textures = m .control .box .textures .slots;
-  models = m .control .box .models .slots;
-  opcode = m .control .opcode;
-  gathered = m .control .box .gathered;
-  wanted = m .control .wanted;
-  notes = m .control .notes;
-}
 
 -- a call's answer, and all that it leaves
 pub record Outcome : Type 0 where

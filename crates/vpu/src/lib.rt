@@ -1,7 +1,5 @@
 // The machine: words in, a picture and a status out. Three calls, each of which takes every input:
 // `reset`, `feed` and `pixel`.
-pub mod run;
-
 use screen::plane::Read;
 use state::State;
 ghost use mathlib.Core.Path.{_≡_};

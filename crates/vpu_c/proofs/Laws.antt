@@ -8,13 +8,13 @@ use lib.ListN.{length}
 use lib.Ieee.{Float}
 use Rattle.state.specs.State.{wellFormed}
 use Rattle.state.specs.declared.State.{State}
-use Rattle.execute.specs.Kept.{machine}
-use Rattle.vpu.specs.Calls.{Outcome, outcome, stateOf, lengthsOk, feed}
+use Rattle.execute.specs.Kept.{machine, stateOf}
+use Rattle.vpu.specs.Calls.{Outcome, outcome, lengthsOk, feed}
 use Rattle.vpu.proofs.Laws.{feed-wrong, feed-malformed, feed-done}
-use Rattle.vpu_c.specs.Plain.{stateIn, stateOut, switchesOk}
+use Rattle.plain.specs.Plain.{stateIn, stateOut, switchesOk}
 use Rattle.vpu_c.specs.Calls.{Handed, handed, putOut, feedC}
-use Rattle.vpu_c.specs.declared.plain.VpuState.{VpuState}
-use Rattle.vpu_c.proofs.Back.{in-out, out-ok, out-in}
+use Rattle.plain.specs.declared.VpuState.{VpuState}
+use Rattle.plain.proofs.Back.{in-out, out-ok, out-in}
 
 -- ---- from what the machine's call answers and leaves to the host's
 pub put-out : {k n : ℕ} {s : State} {v : VpuState} {P : List ℕ} {D : List ℤ} {F : List Float} {C T M : List ℕ} {o : Outcome}

@@ -1,15 +1,14 @@
 -- The calls as a host in C sees them: the answer's number, the state as plain data, and every lent element afterwards. Definitions only.
 use Prim.Native.Nat.{ℕ}
 use mathlib.Core.Bool.{cond}
-use mathlib.Core.List.{List, [], _∷_}
+use mathlib.Core.List.{List}
 use lib.IntN.{ℤ}
 use lib.ListN.{length}
 use lib.Ieee.{Float}
-use Rattle.screen.specs.Plane.{Answered}
+use Rattle.execute.specs.Kept.{stateOf}
 use Rattle.vpu.specs.Calls as vpu
-use Rattle.vpu_c.specs.Plain.{stateIn, stateOut, switchesOk}
-use Rattle.vpu_c.specs.declared.plain.VpuState.{VpuState}
-use Rattle.vpu_c.specs.declared.VpuColour.{VpuColour}
+use Rattle.plain.specs.Plain.{stateIn, stateOut, switchesOk}
+use Rattle.plain.specs.declared.VpuState.{VpuState}
 
 -- a call's answer, and all that it leaves
 pub record Handed : Type 0 where
@@ -28,7 +27,7 @@ handed n v P D F C T M = record { answer = n; state = v; plane = P; depth = D; d
 -- what the machine's own call leaves, with the state put out as plain data
 abbrev pub putOut : vpu.Outcome → Handed
 putOut o =
-    handed (o .answer) (stateOut (vpu.stateOf (o .machine))) (o .machine .picture .plane) (o .machine .picture .depth) (o .machine .picture .depthF)
+    handed (o .answer) (stateOut (stateOf (o .machine))) (o .machine .picture .plane) (o .machine .picture .depth) (o .machine .picture .depthF)
     (o .machine .control .box .area) (o .machine .control .box .textures .words) (o .machine .control .box .models .words)
 
 -- `vpu_reset`
@@ -41,7 +40,3 @@ feedC v ws P D F C T M =
     cond (vpu.lengthsOk (length P) (length D) (length F) (length C) (length T) (length M))
     (cond (switchesOk v) (putOut (vpu.feed (stateIn v) ws P D F C T M)) (handed 2 v P D F C T M))
     (handed 1 v P D F C T M)
-
--- `vpu_pixel`: the number and the four bytes of its answer
-abbrev pub shown : VpuColour → Answered
-shown c = record { number = c .answer; bytes = c .r ∷ c .g ∷ c .b ∷ c .a ∷ [] }

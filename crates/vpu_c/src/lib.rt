@@ -1,28 +1,18 @@
 // The machine for C: the same three calls, with the state as plain data and the answer as a number.
 // Every byte that a host can send has an answer: a switch above 1 is malformed, after the lengths.
-mod plain;
-
+use plain::VpuColour;
 use plain::VpuState;
-use screen::plane::Read;
 use vpu::Answer;
 ghost use mathlib.Core.Path.{_≡_};
 ghost use Rattle.screen.specs.Plane.{pixelOf};
 ghost use Rattle.vpu.specs.Calls.{numberOf};
-ghost use Rattle.vpu_c.specs.Calls.{handed, resetC, feedC, shown};
+ghost use Rattle.plain.specs.Plain.{shown};
+ghost use Rattle.vpu_c.specs.Calls.{handed, resetC, feedC};
 
 #[repr(C)]
 pub struct VpuFed {
     pub answer: u32,
     pub state: VpuState,
-}
-
-#[repr(C)]
-pub struct VpuColour {
-    pub answer: u32,
-    pub r: u8,
-    pub g: u8,
-    pub b: u8,
-    pub a: u8,
 }
 
 fn number_of(answer: Answer) -> u32
@@ -105,21 +95,5 @@ pub extern "C" fn vpu_feed(
 pub extern "C" fn vpu_pixel(plane: &[u8], x: usize, y: usize) -> VpuColour
     ensures { λ r. ⌜ shown r ≡ pixelOf (now (plane .entry)) x y ⌝ }
 {
-    let read = vpu::pixel(plane, x, y);
-    match read {
-        Read::Colour(c) => VpuColour {
-            answer: 0,
-            r: c.r,
-            g: c.g,
-            b: c.b,
-            a: c.a,
-        },
-        Read::WrongLength => VpuColour {
-            answer: 1,
-            r: 0,
-            g: 0,
-            b: 0,
-            a: 0,
-        },
-    }
+    plain::colour_out(vpu::pixel(plane, x, y))
 }

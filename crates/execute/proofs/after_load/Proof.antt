@@ -4,7 +4,7 @@ use native.Mathlib.Omega.{arith}
 use lib.Seq.{length-take-le}
 use borrow.Author.Needs.{needs}
 use Rattle.store.specs.declared.Kind.{Kind}
-use Rattle.execute.specs.declared.command.Command.the-variants.{Loads}
+use Rattle.command.specs.declared.Command.the-variants.{Loads}
 use Rattle.execute.proofs.Executed.{texture-executed, model-executed}
 use Rattle.execute.proofs.after_load.Statement.{statement}
 use Rattle.execute.proofs.after_load.Tie as tie

@@ -2,7 +2,8 @@
 use mathlib.Core.Path.{refl, sym, _∙_, ap}
 use borrow.Author.Needs.{needs}
 use Rattle.vpu.specs.Calls.{outcome, cleared}
-use Rattle.vpu.proofs.Laws.{parts-machine, reset-wrong, reset-done}
+use Rattle.run.proofs.Laws.{parts-machine}
+use Rattle.vpu.proofs.Laws.{reset-wrong, reset-done}
 use Rattle.vpu.proofs.reset.Statement.{statement}
 use Rattle.vpu.proofs.reset.Tie as tie
 

@@ -2,7 +2,8 @@
 use mathlib.Core.Path.{_≡_, sym, ap, _∙_}
 use lib.ListN.{length}
 use borrow.Author.Needs.{needs}
-use Rattle.execute.specs.Commands.{drawWords, flatPainted, transformedPainted, texturedPainted, modelPainted}
+use Rattle.command.specs.Command.{drawWords}
+use Rattle.execute.specs.Commands.{flatPainted, transformedPainted, texturedPainted, modelPainted}
 use Rattle.execute.proofs.Painted.{by-length, by-draw, transformed-words, textured-words, flat-painted, strokes-painted}
 use Rattle.execute.proofs.paint.paint.Statement.{statement}
 use Rattle.execute.proofs.paint.paint.Tie as tie

@@ -2,7 +2,7 @@
 use mathlib.Core.Path.{_≡_, sym, ap, _∙_}
 use lib.ListN.{length}
 use borrow.Author.Needs.{needs}
-use Rattle.execute.specs.Commands.{settingWords}
+use Rattle.command.specs.Command.{settingWords}
 use Rattle.execute.proofs.Laws.{set-as, set-wrong}
 use Rattle.execute.proofs.set.set.Statement.{statement}
 use Rattle.execute.proofs.set.set.Tie as tie

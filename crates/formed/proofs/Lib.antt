@@ -1,0 +1,3 @@
+mod Laid
+mod Split
+mod Marks

@@ -1,0 +1,3 @@
+pub mod Framing
+pub mod Whole
+pub mod Sound
