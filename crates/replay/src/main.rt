@@ -8,7 +8,8 @@ mod tape;
 
 use machine::Cut;
 use machine::run;
-ghost use Prim.Native.Nat.{_<_};
+ghost use Prim.Native.Nat.{_<_, _≤_};
+ghost use lib.ListN.{length};
 
 // The longest stream that is taken.
 const TAPE: usize = 110000;
@@ -16,65 +17,47 @@ const TAPE: usize = 110000;
 // Words of a store. Some streams fill both to the last word.
 const STORE: usize = 32760;
 
-// One stream three times, if the file has another. The counts on the tape are dropped after the
-// first.
-fn stream(
-    fd: i32,
-    tape: &mut [u32],
-    plane: &mut [u8],
-    depth: &mut [i32],
-    depth_f32: &mut [f32],
-    command: &mut [u32],
-    textures: &mut [u32],
-    models: &mut [u32],
-) -> bool {
-    let n = tape::next(fd, tape);
-    if n == 0 {
-        return false;
+// A stream's three runs, in their order; after the last comes the next stream's first.
+fn following(cut: Cut) -> Cut {
+    match cut {
+        Cut::Counted => Cut::Whole,
+        Cut::Whole => Cut::Words,
+        Cut::Words => Cut::Counted,
     }
-    run(
-        Cut::Counted,
-        &tape[..n],
-        plane,
-        depth,
-        depth_f32,
-        command,
-        textures,
-        models,
-    );
-    let m = tape::joined(tape, n);
-    run(
-        Cut::Whole,
-        &tape[..m],
-        plane,
-        depth,
-        depth_f32,
-        command,
-        textures,
-        models,
-    );
-    run(
-        Cut::Words,
-        &tape[..m],
-        plane,
-        depth,
-        depth_f32,
-        command,
-        textures,
-        models,
-    );
-    true
 }
 
-// A proved loop has to end, and nothing says that a file does. So the streams are counted down, to
-// 0 at once if the file has ended.
-fn left(streams: u64, more: bool) -> u64
-    requires { ⌜ 0 < streams ⌝ }
-    ensures { λ r. ⌜ r < streams ⌝ }
+// How many words of the tape a run takes. The first run of a stream reads it; the counts on the
+// tape are dropped after that.
+fn taken(fd: i32, cut: Cut, tape: &mut [u32], n: usize) -> usize
+    requires { ⌜ n ≤ length (now tape) ⌝ }
+    ensures { λ r. ⌜ r ≤ length (now (tape .exit)) ⌝ }
 {
-    if more { streams - 1 } else { 0 }
+    match cut {
+        Cut::Counted => tape::next(fd, tape),
+        Cut::Whole => tape::joined(tape, n),
+        Cut::Words => n,
+    }
 }
 
+// A proved loop has to end, and nothing says that a file does. So the runs are counted down, to 0
+// at once if the first run of a stream found none.
+fn left(runs: u64, cut: Cut, n: usize) -> u64
+    requires { ⌜ 0 < runs ⌝ }
+    ensures { λ r. ⌜ r < runs ⌝ }
+{
+    match cut {
+        Cut::Counted => {
+            if n == 0 {
+                return 0;
+            }
+            runs - 1
+        }
+        Cut::Whole => runs - 1,
+        Cut::Words => runs - 1,
+    }
+}
+
+// Stream after stream, a run a turn. A first run of no words prints nothing.
 fn streams(
     fd: i32,
     tape: &mut [u32],
@@ -85,10 +68,23 @@ fn streams(
     textures: &mut [u32],
     models: &mut [u32],
 ) {
-    let mut n = u64::MAX;
-    while n > 0 {
-        let more = stream(fd, tape, plane, depth, depth_f32, command, textures, models);
-        n = left(n, more);
+    let mut runs = u64::MAX;
+    let mut cut = Cut::Words;
+    let mut n: usize = 0;
+    while runs > 0 {
+        cut = following(cut);
+        n = taken(fd, cut, tape, n);
+        run(
+            cut,
+            &tape[..n],
+            plane,
+            depth,
+            depth_f32,
+            command,
+            textures,
+            models,
+        );
+        runs = left(runs, cut, n);
     }
 }
 

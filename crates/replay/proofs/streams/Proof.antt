@@ -1,22 +1,36 @@
--- `replay::streams`: no stream changes a length, and fewer are left after each. Assumes nothing.
-use mathlib.Core.Path.{_≡_}
+-- `replay::streams`: no run changes a length, no run takes more words than the tape has, and fewer runs are left after each. Assumes nothing.
+use Prim.Native.Nat.{_≤_}
+use mathlib.Core.Path.{_≡_, sym}
 use lib.ListN.{length}
+use lib.Seq.{length-take-le}
 use borrow.Author.Needs.{needs}
 use Rattle.replay.proofs.streams.Statement.{statement}
 use Rattle.replay.proofs.streams.Tie as tie
 
 abbrev Inv-loop : tie.InvT-loop
-Inv-loop fd tape₀ plane₀ depth₀ depth-f32₀ command₀ textures₀ models₀ n₀ tape plane depth depth-f32 command textures models n =
-    (length tape ≡ length tape₀) × (length plane ≡ length plane₀) × (length depth ≡ length depth₀) × (length depth-f32 ≡ length depth-f32₀) × (length command ≡ length command₀) × (length textures ≡ length textures₀) × (length models ≡ length models₀)
+Inv-loop fd tape₀ plane₀ depth₀ depth-f32₀ command₀ textures₀ models₀ runs₀ cut₀ n₀ tape plane depth depth-f32 command textures models runs cut n =
+    (n ≤ length tape) × (length tape ≡ length tape₀) × (length plane ≡ length plane₀) × (length depth ≡ length depth₀) × (length depth-f32 ≡ length depth-f32₀) × (length command ≡ length command₀) × (length textures ≡ length textures₀) × (length models ≡ length models₀)
 
 abbrev μ-loop : tie.MeasureT-loop
-μ-loop fd tape₀ plane₀ depth₀ depth-f32₀ command₀ textures₀ models₀ n₀ tape plane depth depth-f32 command textures models n = n
+μ-loop fd tape₀ plane₀ depth₀ depth-f32₀ command₀ textures₀ models₀ runs₀ cut₀ n₀ tape plane depth depth-f32 command textures models runs cut n = runs
 
 loop-holds : tie.Need-loop-holds Inv-loop μ-loop
 loop-holds c = search needs
 
-stream-requires : tie.Need-stream-requires Inv-loop μ-loop
-stream-requires c κs = search needs
+following-requires : tie.Need-following-requires Inv-loop μ-loop
+following-requires c κs = search needs
+
+taken-requires : tie.Need-taken-requires Inv-loop μ-loop
+taken-requires c κs = search needs
+
+slice-reshare-prefix-run : tie.Need-slice-reshare-prefix-run Inv-loop μ-loop
+slice-reshare-prefix-run c = search needs
+
+slice-aggregate-run : tie.Need-slice-aggregate-run Inv-loop μ-loop
+slice-aggregate-run c = sym (length-take-le _ _ (search needs))
+
+run-requires : tie.Need-run-requires Inv-loop μ-loop
+run-requires c κs = search needs
 
 left-requires : tie.Need-left-requires Inv-loop μ-loop
 left-requires c κs = search needs
@@ -58,7 +72,11 @@ streams-spec =
     Inv-loop
     μ-loop
     loop-holds
-    stream-requires
+    following-requires
+    taken-requires
+    slice-reshare-prefix-run
+    slice-aggregate-run
+    run-requires
     left-requires
     loop-less
     loop-again
