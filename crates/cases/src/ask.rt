@@ -1,11 +1,10 @@
-// What a line writes, with each part in braces replaced by what it asks.
-use crate::inner;
+// What a line writes, with each part in braces replaced by what it asks. Pixels are read by the
+// public call.
 use state::State;
+use tell::Seen;
+use tell::say;
 use trial::line;
 use trial::line::Op;
-use trial::say;
-use trial::tell;
-use trial::tell::Seen;
 use vpu::Answer;
 use vpu::Fed;
 use words::least;
@@ -23,36 +22,9 @@ pub fn told(given: State, fed: Fed) -> Seen {
     tell::seen_after(number_of(answer), given, fed.state)
 }
 
-fn count(plane: &[u8]) -> u64 {
-    let mut n: u64 = 0;
-    let mut i: usize = 0;
-    while i < 76800 {
-        n = std::num::wrapping_add_u64(n, tell::drawn(vpu::pixel(plane, i % 320, i / 320)));
-        i += 1;
-    }
-    n
-}
-
-fn value(op: Op, s: Seen, changed: u32, plane: &[u8], depth: &[i32], depth_f32: &[f32]) {
-    let letter = op.letter;
-    let x = op.a as usize;
-    let y = op.b as usize;
-    match letter {
-        b'S' => say::word(s.status),
-        b'F' => tell::framing(s.opcode, s.wanted),
-        b'C' => tell::cleared(plane, depth, depth_f32),
-        b'N' => say::number(count(plane)),
-        b'A' | b'P' | b'Q' => tell::pixel(letter, vpu::pixel(plane, x, y)),
-        b'Z' => tell::depth_at(depth, op.a, op.b),
-        b'H' => {
-            let slots = s.slots;
-            tell::slot(slots, x);
-        }
-        b'X' => inner::shaded(op.a),
-        b'T' => inner::texel(op.a),
-        b'R' => inner::root(op.a),
-        _ => tell::answer(s.answer, changed),
-    }
+fn value(op: Op, seen: Seen, changed: u32, plane: &[u8], depth: &[i32], depth_f32: &[f32]) {
+    let read = vpu::pixel(plane, op.a as usize, op.b as usize);
+    tell::value(op, seen, changed, read, plane, depth, depth_f32);
 }
 
 // Only what the call was lent is looked at.

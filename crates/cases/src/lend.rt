@@ -1,11 +1,11 @@
 // The calls, each lent as much of the memories as its line says.
 use crate::ask;
 use state::State;
+use tell::Seen;
 use trial::job;
 use trial::job::Plan;
 use trial::line::Line;
 use trial::line::MOST;
-use trial::tell::Seen;
 use words::least;
 
 fn call(

@@ -2,7 +2,6 @@
 // reads, on the compiled calls: the table on standard input, whose head says how a line is read.
 // What is in `stdout` was written by hand, from the rules.
 mod ask;
-mod inner;
 mod lend;
 
 use trial::job;

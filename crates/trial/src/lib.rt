@@ -1,8 +1,6 @@
-// What `cases` has beside its calls: the lines of its table and what their operations ask for,
-// marks in memories, whether two states are the same, and what is written about a call.
+// What `cases` has before its calls and after them: the lines of its table and what their operations
+// ask for, marks in memories, and whether two states are the same.
 pub mod job;
 pub mod line;
 pub mod mark;
 pub mod same;
-pub mod say;
-pub mod tell;

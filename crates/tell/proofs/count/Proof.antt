@@ -1,7 +1,7 @@
 use borrow.Author.Needs.{needs}
 use Prim.Native.Nat.{_-_, _≤_}
-use Rattle.cases.proofs.ask.count.Statement.{statement}
-use Rattle.cases.proofs.ask.count.Tie as tie
+use Rattle.tell.proofs.count.Statement.{statement}
+use Rattle.tell.proofs.count.Tie as tie
 
 abbrev Inv-loop : tie.InvT-loop
 Inv-loop plane n₀ i₀ n i =

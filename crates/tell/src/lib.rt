@@ -1,11 +1,15 @@
-// What a line can ask about a call and what it left, as far as it takes no call to tell it.
-use crate::mark;
-use crate::same;
-use crate::say;
+// What a line of `cases`' table can ask, and what is written for it: about a call and what it left,
+// about a pixel that was read, and of functions inside the machine.
+mod inner;
+pub mod say;
+
 use screen::plane::Read;
 use screen::plane::Rgba;
 use state::State;
 use store::Slot;
+use trial::line::Op;
+use trial::mark;
+use trial::same;
 
 // What a call answered, whether it left the state as it was, and what a line can ask about the
 // state after it.
@@ -34,7 +38,7 @@ pub fn seen_after(answer: u64, given: State, s: State) -> Seen {
     }
 }
 
-pub fn framing(opcode: u32, wanted: u32) {
+fn framing(opcode: u32, wanted: u32) {
     if opcode == 0 {
         if wanted == 0 {
             say::text(b"next is a header");
@@ -51,7 +55,7 @@ const ONE: u32 = 0x3f80_0000;
 const FAR: i32 = 2147483647;
 
 // How much was cleared. What is cleared becomes white.
-pub fn cleared(plane: &[u8], depth: &[i32], depth_f32: &[f32]) {
+fn cleared(plane: &[u8], depth: &[i32], depth_f32: &[f32]) {
     let none = mark::all(
         mark::BYTE,
         mark::INT,
@@ -84,7 +88,7 @@ fn wrong(read: Read) -> u64 {
 }
 
 // A pixel that a flat triangle drew has alpha 255, one of a reset plane 0.
-pub fn drawn(read: Read) -> u64 {
+fn drawn(read: Read) -> u64 {
     let c = colour_of(read);
     if c.a == 255 { 1 } else { 0 }
 }
@@ -97,14 +101,14 @@ fn among(drawn: u64) {
     say::text(b"not");
 }
 
-pub fn depth_at(depth: &[i32], x: u32, y: u32) {
+fn depth_at(depth: &[i32], x: u32, y: u32) {
     let i = (y as usize) * 320 + (x as usize);
     if i < depth.len() {
         say::signed(depth[i]);
     }
 }
 
-pub fn slot(slots: [Slot; 3], i: usize) {
+fn slot(slots: [Slot; 3], i: usize) {
     if i < 3 {
         let s = slots[i];
         if s.held {
@@ -115,17 +119,57 @@ pub fn slot(slots: [Slot; 3], i: usize) {
     }
 }
 
-pub fn answer(answer: u64, changed: u32) {
+fn answer(answer: u64, changed: u32) {
     say::number(answer);
     say::text(b", ");
     say::amount(changed == 0, changed == 7);
     say::text(b" changed");
 }
 
-pub fn pixel(letter: u8, read: Read) {
+fn pixel(letter: u8, read: Read) {
     match letter {
         b'P' => say::colour(colour_of(read)),
         b'A' => among(drawn(read)),
         _ => say::number(wrong(read)),
+    }
+}
+
+// How many pixels were drawn.
+fn count(plane: &[u8]) -> u64 {
+    let mut n: u64 = 0;
+    let mut i: usize = 0;
+    while i < 76800 {
+        n = std::num::wrapping_add_u64(n, drawn(screen::plane::pixel(plane, i % 320, i / 320)));
+        i += 1;
+    }
+    n
+}
+
+// What the operation asks. `read` is the pixel at its first two numbers.
+pub fn value(
+    op: Op,
+    s: Seen,
+    changed: u32,
+    read: Read,
+    plane: &[u8],
+    depth: &[i32],
+    depth_f32: &[f32],
+) {
+    let letter = op.letter;
+    match letter {
+        b'S' => say::word(s.status),
+        b'F' => framing(s.opcode, s.wanted),
+        b'C' => cleared(plane, depth, depth_f32),
+        b'N' => say::number(count(plane)),
+        b'A' | b'P' | b'Q' => pixel(letter, read),
+        b'Z' => depth_at(depth, op.a, op.b),
+        b'H' => {
+            let slots = s.slots;
+            slot(slots, op.a as usize);
+        }
+        b'X' => inner::shaded(op.a),
+        b'T' => inner::texel(op.a),
+        b'R' => inner::root(op.a),
+        _ => answer(s.answer, changed),
     }
 }
