@@ -1,5 +1,5 @@
-// What a line writes, with each part in braces replaced by what it asks. Pixels are read by the
-// public call.
+// What a line writes, with each part in braces replaced by what it asks. A pixel that is asked for
+// is read by the public call; those that are counted are read below it, by `screen`'s function.
 use state::State;
 use tell::Seen;
 use tell::say;
