@@ -6,7 +6,7 @@
 #include <sys/mman.h>
 #include <unistd.h>
 
-enum { NOTED_MOST = 1 << 16 };
+enum { NOTED_MOST = 1 << 16, TRIED = 10 };
 
 static struct {
     char *from;
@@ -52,4 +52,25 @@ static bool one_pass(size_t first, size_t end) {
         if (watch.noted[i] != from + i) return false;
     }
     return true;
+}
+
+// Writes a word of each of the first pages, as often as told, from the first to the last or back.
+static void watched_passes(void *from, size_t bytes, int times, bool back) {
+    volatile char *at = from;
+    watch_begin(from, bytes);
+    for (int time = 0; time < times; time++) {
+        for (size_t i = 0; i < TRIED; i++) at[watch.page * (back ? TRIED - 1 - i : i)] = 1;
+    }
+    watch_end();
+}
+
+// Whether the watch tells one pass from two, from one backwards, and from one that begins or ends at another page.
+static bool watch_tells(void *from, size_t bytes) {
+    watched_passes(from, bytes, 1, false);
+    size_t words = watch.page / sizeof(uint32_t), end = TRIED * words;
+    bool right = one_pass(0, end) && one_pass(words - 1, end - words + 1) && !one_pass(words, end) && !one_pass(0, end - words);
+    watched_passes(from, bytes, 2, false);
+    right = right && !one_pass(0, end);
+    watched_passes(from, bytes, 1, true);
+    return right && !one_pass(0, end);
 }

@@ -1,6 +1,6 @@
-// Whether an upload has room, at the limit and one word beyond it, and which words it moves, for both kinds: rules 8.4 to 8.8 on the
-// compiled calls, beside a plain list of what is held. After every upload the status, the slots and all memory have to be as the
-// list says, and the store's pages from the old upload on, and no others, have to be written in one pass.
+// Whether an upload has room, at the limit and one word beyond it, and which words it moves, for both kinds: rules 8.4 to 8.8 on
+// the compiled calls, beside a plain list of what is held. After every upload the status, the slots and all memory have to be as
+// the list says. The store's pages from the old upload on, and no others, have to be written in one pass.
 // Linked with the archive of the crate vpu_c; oracle/room builds it.
 #define _GNU_SOURCE
 #include <stdio.h>
@@ -245,7 +245,7 @@ static void greatest(int kind, size_t room, size_t largest, size_t left) {
     end("the largest");
 }
 
-// Each of 64 sent again, all of several pages: first always the oldest, then from anywhere and every other one smaller, then the last.
+// Each of 64 sent again, all of several pages: first always the oldest; then from anywhere, every other one smaller; then the last.
 static void again(int kind, size_t size, size_t less) {
     begin(kind, HELD * size * UNITS[kind]);
     for (uint32_t n = 0; n < HELD; n++) sends(n, size, true);
@@ -256,36 +256,15 @@ static void again(int kind, size_t size, size_t less) {
     end("sent again");
 }
 
-// Writes the first word of each of ten pages, as often as told, from the first to the last or back.
-static void passes(int times, bool back) {
-    size_t words = (size_t)sysconf(_SC_PAGESIZE) / sizeof(uint32_t);
-    volatile uint32_t *at = stores[TEXTURE];
-    watch_begin(stores[TEXTURE], STORE_BYTES);
-    for (int time = 0; time < times; time++) {
-        for (size_t i = 0; i < 10; i++) at[words * (back ? 9 - i : i)] = 1;
-    }
-    watch_end();
-}
-
-// The watch itself: one pass is one, and two, one backwards, and one that begins a page too early or ends too late are not.
-static void watches(void) {
-    size_t words = (size_t)sysconf(_SC_PAGESIZE) / sizeof(uint32_t);
-    passes(1, false);
-    bool right = one_pass(0, 10 * words) && one_pass(words - 1, 9 * words + 1) && !one_pass(words, 10 * words) && !one_pass(0, 9 * words);
-    passes(2, false);
-    right = right && !one_pass(0, 10 * words);
-    passes(1, true);
-    right = right && !one_pass(0, 10 * words);
-    if (!right) printf("the watch over a store's pages is WRONG\n");
-    wrong += !right;
-}
-
 int main(void) {
     for (int kind = TEXTURE; kind <= MODEL; kind++) {
         stores[kind] = mmap(NULL, STORE_BYTES, PROT_READ | PROT_WRITE, MAP_PRIVATE | MAP_ANONYMOUS, -1, 0);
         if (stores[kind] == MAP_FAILED) abort();
     }
-    watches();
+    if (!watch_tells(stores[TEXTURE], STORE_BYTES)) {
+        printf("the watch over a store's pages is WRONG\n");
+        wrong++;
+    }
     for (int kind = TEXTURE; kind <= MODEL; kind++) {
         limits(kind, 0);
         if (kind == MODEL) limits(kind, 27);
