@@ -1,7 +1,7 @@
 // Runs of words inside a lent store: moved down, written, and made zero.
-// Moves are counted: `move_word` alone reads a word of the store and writes it elsewhere.
 // Each says the whole store afterwards as a `paste`: `paste d at s n` is d with the n elements from
 // index `at` on replaced by s's first n.
+// Moves are counted: only `move_word` reads a word of the store and writes it elsewhere.
 use crate::Found;
 use crate::Kind;
 use crate::SLOTS;
