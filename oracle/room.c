@@ -1,9 +1,12 @@
-// Whether an upload has room, at the limit and one word beyond it, for both kinds: rules 8.4 to 8.7 on the compiled calls, beside
-// a plain list of what is held. After every upload the status, the slots and all memory have to be as the list says.
+// Whether an upload has room, at the limit and one word beyond it, and which words it moves, for both kinds: rules 8.4 to 8.8 on
+// the compiled calls, beside a plain list of what is held. After every upload the status, the slots and all memory have to be as
+// the list says. The store's pages from the old upload on, and no others, have to be written in one pass.
 // Linked with the archive of the crate vpu_c; oracle/room builds it.
+#define _GNU_SOURCE
 #include <stdio.h>
 
 #include "lent.h"
+#include "pages.h"
 
 enum { MOST = VPU_STORE_WORDS_MOST, COMMAND = VPU_COMMAND_WORDS, HELD = VPU_SLOTS };
 
@@ -12,8 +15,10 @@ static struct {
     int32_t depth[VPU_PIXELS];
     float depth_f32[VPU_PIXELS];
     uint32_t command[COMMAND];
-    uint32_t stores[2][MOST];
 } memory;
+
+static const size_t STORE_BYTES = MOST * sizeof(uint32_t);
+static uint32_t *stores[2];
 
 enum { TEXTURE, MODEL };
 
@@ -38,6 +43,7 @@ static struct {
 static vpu_state state;
 static uint32_t seed, words[1 + COMMAND];
 static int wrong, uploads, refused;
+static size_t pages;
 
 static uint32_t content(uint32_t from, size_t i) { return from * 2654435761u + (uint32_t)i; }
 
@@ -95,7 +101,7 @@ static bool rest_right(const vpu_state *s, size_t payload) {
            marked(memory.depth_f32, sizeof memory.depth_f32) &&
            memcmp(memory.command, words + 1, payload * sizeof *words) == 0 &&
            marked(memory.command + payload, (COMMAND - payload) * sizeof *words) &&
-           marked(memory.stores[1 - list.kind], sizeof memory.stores[0]);
+           marked(stores[1 - list.kind], STORE_BYTES);
 }
 
 // The words of the command; returns how many are its payload.
@@ -114,25 +120,36 @@ static size_t lent(int kind) { return kind == list.kind ? list.room : MOST; }
 
 static vpu_fed feed(size_t count) {
     return vpu_feed(state, words, count, memory.plane, VPU_PLANE_BYTES, memory.depth, VPU_PIXELS, memory.depth_f32,
-                    VPU_PIXELS, memory.command, COMMAND, memory.stores[TEXTURE], lent(TEXTURE), memory.stores[MODEL],
-                    lent(MODEL));
+                    VPU_PIXELS, memory.command, COMMAND, stores[TEXTURE], lent(TEXTURE), stores[MODEL], lent(MODEL));
+}
+
+// Where the upload under the number begins, or where a new one would.
+static size_t begins(uint32_t number) {
+    size_t at = 0;
+    for (size_t i = 0; i < list.count && list.held[i].number != number; i++) at += list.held[i].words;
+    return at;
 }
 
 // One upload, which has to be taken or to have no room.
 static void sends(uint32_t number, size_t size, bool taken) {
     upload u = of(number, size);
-    size_t payload = command_of(u);
+    size_t payload = command_of(u), first = begins(number), old = list.total;
     memset(memory.command, MARK, sizeof memory.command);
     state.status = 0;
+    watch_begin(stores[list.kind], STORE_BYTES);
     vpu_fed fed = feed(1 + payload);
+    watch_end();
     if (taken) keep(u);
+    size_t end = !taken ? first : old > list.total ? old : list.total;
     const vpu_slot *slots[] = {fed.state.textures, fed.state.models};
     bool right = fed.answer == 0 && fed.state.status == (taken ? 0u : VPU_STATUS_NO_ROOM) && rest_right(&fed.state, payload) &&
-                 slots_right(slots[list.kind]) && memcmp(memory.stores[list.kind], list.words, sizeof list.words) == 0;
+                 slots_right(slots[list.kind]) && memcmp(stores[list.kind], list.words, sizeof list.words) == 0 &&
+                 one_pass(first, end);
     if (!right) printf("%s, store of %zu: number %u of %zu words WRONG\n", NAMES[list.kind], list.room, (unsigned)number, u.words);
     wrong += !right;
     uploads++;
     refused += !taken;
+    pages += watch.count;
     state = fed.state;
 }
 
@@ -142,16 +159,19 @@ static void begin(int kind, size_t room) {
     list.room = room;
     list.count = list.total = 0;
     vpu_fed fed = vpu_reset(memory.plane, VPU_PLANE_BYTES, memory.depth, VPU_PIXELS, memory.depth_f32, VPU_PIXELS, memory.command,
-                            COMMAND, memory.stores[TEXTURE], lent(TEXTURE), memory.stores[MODEL], lent(MODEL));
+                            COMMAND, stores[TEXTURE], lent(TEXTURE), stores[MODEL], lent(MODEL));
     wrong += fed.answer != 0;
     state = fed.state;
     memset(&memory, MARK, sizeof memory);
+    for (int each = TEXTURE; each <= MODEL; each++) memset(stores[each], MARK, STORE_BYTES);
     memset(list.words, MARK, sizeof list.words);
 }
 
 static void end(const char *what) {
-    printf("%s, %s, store of %zu: %d uploads, %d without room\n", NAMES[list.kind], what, list.room, uploads, refused);
+    printf("%s, %s, store of %zu: %d uploads, %d without room, %zu pages written\n", NAMES[list.kind], what, list.room, uploads,
+           refused, pages);
     uploads = refused = 0;
+    pages = 0;
 }
 
 // Ten sizes fit, and the spare words are too few for one more.
@@ -225,13 +245,34 @@ static void greatest(int kind, size_t room, size_t largest, size_t left) {
     end("the largest");
 }
 
+// Each of 64 sent again, all of several pages: first always the oldest; then from anywhere, every other one smaller; then the last.
+static void again(int kind, size_t size, size_t less) {
+    begin(kind, HELD * size * UNITS[kind]);
+    for (uint32_t n = 0; n < HELD; n++) sends(n, size, true);
+    for (uint32_t n = 0; n < HELD; n++) sends(n, size, true);
+    for (uint32_t n = 0; n < HELD; n++) sends(n * 23 % HELD, size - n % 2 * less, true);
+    sends(41, size, true);
+    sends(41, size / 2, true);
+    end("sent again");
+}
+
 int main(void) {
+    for (int kind = TEXTURE; kind <= MODEL; kind++) {
+        stores[kind] = mmap(NULL, STORE_BYTES, PROT_READ | PROT_WRITE, MAP_PRIVATE | MAP_ANONYMOUS, -1, 0);
+        if (stores[kind] == MAP_FAILED) abort();
+    }
+    if (!watch_tells(stores[TEXTURE], STORE_BYTES)) {
+        printf("the watch over a store's pages is WRONG\n");
+        wrong++;
+    }
     for (int kind = TEXTURE; kind <= MODEL; kind++) {
         limits(kind, 0);
         if (kind == MODEL) limits(kind, 27);
         lacking(kind);
         all_slots(kind);
     }
+    again(TEXTURE, 3072, 512);
+    again(MODEL, 110, 1);
     greatest(TEXTURE, MOST, 524288, 0);
     greatest(MODEL, MOST, 18724, 18);
     greatest(MODEL, MOST - 8, 18724, 18);

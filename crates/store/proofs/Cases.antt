@@ -1,10 +1,10 @@
--- Rule 9.12, and that 1 and 80000001 are different numbers (rule 8.3), of the definitions. antt computes each. Assumes nothing.
+-- Rule 9.12, how many words move (rule 8.8), and that 1 and 80000001 are different numbers (rule 8.3), of the definitions. antt computes each. Assumes nothing.
 use Prim.Native.Nat.{ℕ}
 use mathlib.Core.Path.{_≡_, refl}
 use mathlib.Core.Option.{some}
 use mathlib.Core.List.{List, [], _∷_}
 use lib.ListN.{length, replicate}
-use Rattle.store.specs.Uploads.{Whole, card, room}
+use Rattle.store.specs.Uploads.{Whole, Card, card, behind, room}
 use Rattle.store.specs.Slots.{wholeOf, noSlot, told, view, slotFor, looked, slotsAfter, wordsAfter}
 use Rattle.store.specs.declared.Slot.{Slot}
 use Rattle.store.specs.declared.Room.{Room}
@@ -62,6 +62,14 @@ larger n = wholeOf n 2 3 (31 ∷ 32 ∷ 33 ∷ [])
 one-too-many : (answer (larger 1) (both 4) ≡ NoWords) × (answer (larger 1) (both 5) ≡ Fits) × (answer (larger 3) (both 6) ≡ NoWords) × (answer (larger 3) (both 7) ≡ Fits)
 unfolding answer both put empty first second larger
 one-too-many = (refl, refl, refl, refl)
+
+-- ---- rule 8.8: beside two of two words one of three. The first sent again moves five, the second three, the last and a new one none
+three : List Card
+three = told Texture (put (larger 3) (both 7) .slots)
+
+moved-words : (behind 1 three ≡ 5) × (behind 2 three ≡ 3) × (behind 3 three ≡ 0) × (behind 4 three ≡ 0)
+unfolding three both put empty first second larger
+moved-words = (refl, refl, refl, refl)
 
 -- ---- rule 8.3: a slot is not chosen by some bits of the number, 1 and 80000001 are different
 far : Whole

@@ -1,7 +1,7 @@
--- What `put` finds and leaves, in terms of the uploads that a store holds: the old upload under a number, the closing up of the words, and the new ones last. Assumes nothing.
+-- What `put` finds and leaves, in terms of the uploads that a store holds: the old upload under a number, the closing up of the words and how many that moves, and the new ones last. Assumes nothing.
 use Prim.Native.Nat.{ℕ, zero, suc, _+_, _-_, _≤_, max}
 use mathlib.Core.Path.{_≡_, refl, sym, ap, _∙_}
-use mathlib.Core.Bool.{Bool, true, false, cond, _&&_}
+use mathlib.Core.Bool.{Bool, true, false, cond, _&&_, true≢false}
 use mathlib.Core.Option.{some}
 use mathlib.Core.List.{List, [], _∷_, _++_, append-assoc}
 use native.Mathlib.Omega.{arith}
@@ -10,7 +10,7 @@ use lib.ListN.{length, take, drop, replicate}
 use lib.Seq.{take-at, drop-at, drop-drop, paste}
 use lib.Dec.{eqb}
 use borrow.Author.Tests.{eqb-true}
-use Rattle.store.specs.Uploads.{Whole, Card, card, cards, without, find, isSome, holds, wordsOf, total}
+use Rattle.store.specs.Uploads.{Whole, Card, card, cards, without, find, isSome, holds, stored, wordsOf, total, behind}
 use Rattle.store.specs.Slots.{areaOf, sidesOk, noSlot, slotOf, place, told, uploadAt, view, slotFor, looked, over, wordsAfter, slotsOk}
 use Rattle.store.specs.declared.Slot.{Slot}
 use Rattle.store.specs.declared.Kind.{Kind}
@@ -46,6 +46,7 @@ record Old (n at : ℕ) (us : List Whole) (s : Slot) : Type 0 where
   ys : List Whole
   is : us ≡ xs ++ (v ∷ ys)
   gone : without n us ≡ xs ++ ys
+  later : behind n (cards us) ≡ total (cards ys)
   slot : s ≡ slotOf (at + total (cards xs)) (card v)
 
 none-free : (n m : ℕ) → slotFor n (replicate m noSlot) ≡ Nothing
@@ -64,12 +65,13 @@ old-of n at m (u ∷ us) s d e = go (eqb (u .number) n) refl e (old-of n (at + l
       ys = us;
       is = refl;
       gone = rw b (without-none n us (sym (holds-cards n us) ∙ rw (eqb-true (u .number) n b) at (d .0)));
+      later = rw b;
       slot = rw add-zero (cc);
     }
     go false b e ih =
         let o = ih e in
         let sum : at + length (u .words) + total (cards (o .xs)) ≡ at + (length (u .words) + total (cards (o .xs))) = omega arith in
-        record { xs = u ∷ o .xs; v = o .v; ys = o .ys; is = ap (λ (l : List Whole). u ∷ l) (o .is); gone = rw (b, o .gone); slot = rw sum at (o .slot) }
+        record { xs = u ∷ o .xs; v = o .v; ys = o .ys; is = ap (λ (l : List Whole). u ∷ l) (o .is); gone = rw (b, o .gone); later = rw b (o .later); slot = rw sum at (o .slot) }
 
 -- ---- the closing up: from A B C R to A C, and the rest where it was
 close : (A B C R store : List ℕ) (a b c : ℕ) → store ≡ A ++ (B ++ (C ++ R)) → length A ≡ a → length B ≡ b → length C ≡ c
@@ -93,6 +95,29 @@ last n ws us store st at end p q h e =
     let back : drop m st ≡ drop m store =
     ap (λ (i : ℕ). drop i st) past ∙ sym (drop-drop (m - at) at st) ∙ ap (drop (m - at)) more ∙ drop-drop (m - at) at store ∙ ap (λ (i : ℕ). drop i store) (sym past) in
     rw (front, back, p)
+
+-- ---- rule 8.8: how many words move. A new number moves none
+pub moves-new : (n : ℕ) (cs : List Card) → holds n cs ≡ false → behind n cs ≡ 0
+moves-new n [] h = refl
+moves-new n (c ∷ cs) h = go (eqb (c .number) n) h (moves-new n cs)
+  where
+    go : (b : Bool) → isSome (cond b (some c) (find n cs)) ≡ false → (holds n cs ≡ false → behind n cs ≡ 0) → cond b (total cs) (behind n cs) ≡ 0
+    go true p ih = absurd (true≢false p)
+    go false p ih = ih p
+
+-- nor does the last upload, sent again
+pub moves-last : (c : Card) (cs : List Card) → behind (c .number) (stored c cs) ≡ 0
+moves-last c [] = go (eqb (c .number) (c .number))
+  where
+    go : (b : Bool) → cond b (total []) (behind (c .number) []) ≡ 0
+    go true = refl
+    go false = refl
+moves-last c (d ∷ cs) = go (eqb (d .number) (c .number)) refl (moves-last c cs)
+  where
+    go : (b : Bool) → eqb (d .number) (c .number) ≡ b → behind (c .number) (stored c cs) ≡ 0
+        → behind (c .number) (cond b (without (c .number) cs) (d ∷ without (c .number) cs) ++ (c ∷ [])) ≡ 0
+    go true e ih = ih
+    go false e ih = rw e ih
 
 -- ---- what `put` needs to know, and what it leaves
 module _ (k : Kind) (slots : List Slot) (store : List ℕ) (n : ℕ) (long : length slots ≡ 64) (ok : slotsOk k (length store) 0 slots ≡ true) where
@@ -122,6 +147,7 @@ module _ (k : Kind) (slots : List Slot) (store : List ℕ) (n : ℕ) (long : len
     pub left : total (without n (told k slots)) + areaOf k (s .width) (s .height) ≡ total (told k slots)
     pub closed : paste store (s .start) (drop (s .start + areaOf k (s .width) (s .height)) store) (total (told k slots) - (s .start + areaOf k (s .width) (s .height)))
         ≡ wordsOf (without n (view k slots store)) ++ drop (total (without n (told k slots))) store
+    pub later : behind n (told k slots) ≡ total (told k slots) - (s .start + areaOf k (s .width) (s .height))
 
   pub spot : (s : Slot) → slotFor n slots ≡ At s → Spot s
   spot s e =
@@ -151,7 +177,12 @@ module _ (k : Kind) (slots : List Slot) (store : List ℕ) (n : ℕ) (long : len
         inside = omega arith;
         left = omega arith;
         closed = rw (start, area, more, o .gone, wordsOf-append (o .xs) (o .ys), rest) (close A B C R store a b c is (length-wordsOf (o .xs)) refl (length-wordsOf (o .ys)));
+        later = rw (start, area) (ap (behind n) (sym (view-told k slots store long ok)) ∙ o .later ∙ sym more);
       }
+
+  -- rule 8.8: a number that is held moves the words from the end of its old upload to the end of all
+  pub moves-behind : (s : Slot) → slotFor n slots ≡ At s → behind n (told k slots) ≡ total (told k slots) - (s .start + areaOf k (s .width) (s .height))
+  moves-behind s e = spot s e .later
 
   pub put-old : (ws st : List ℕ) (s : Slot) (size others : ℕ) → slotFor n slots ≡ At s → size ≡ areaOf k (s .width) (s .height) → others ≡ total (without n (told k slots))
       → st ≡ paste store (s .start) (drop (s .start + size) store) (others + size - (s .start + size)) → over (others + size) (take others st ++ ws) st ≡ wordsAfter n ws (view k slots store) store

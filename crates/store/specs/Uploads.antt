@@ -66,6 +66,11 @@ abbrev pub total : List Card → ℕ
 total [] = 0
 total (c ∷ cs) = c .words + total cs
 
+-- rule 8.8: how many words those behind the one under n have; none if nothing is under n
+abbrev pub behind : ℕ → List Card → ℕ
+behind n [] = 0
+behind n (c ∷ cs) = cond (eqb (c .number) n) (total cs) (behind n cs)
+
 -- rule 1.4: the most words of a store
 abbrev pub mostWords : ℕ
 mostWords = 16777216

@@ -72,7 +72,7 @@ returns-2 c =
       slots = rw yes
           (c .slots-after .ensures
           ∙ ap (λ (n : ℕ). slotsAfter (record { number = args .number; wide = args .width; high = args .height; words = n }) (told (args .kind) (args .slots))) (sym (start .pre .1 .1 .1)));
-      words = rw yes (c .before .before .before .put .ensures);
+      words = rw yes (c .before .before .before .put .ensures .0);
     }
 
 pub upload-spec : {M : Type 1} → statement M

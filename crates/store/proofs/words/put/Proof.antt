@@ -8,8 +8,9 @@ use lib.ListN.{length, take}
 use Rattle.store.specs.Uploads.{total}
 use Rattle.store.specs.Slots.{told, view, slotFor, over, wordsAfter}
 use Rattle.store.specs.declared.Slot.{Slot}
-use Rattle.store.specs.declared.Found.the-variants.{At}
-use Rattle.store.proofs.Moved.{total-fits, put-new, put-old, Spot, spot}
+use Rattle.store.specs.declared.Found.the-variants.{At, Nothing}
+use Rattle.store.proofs.Walk.{none-holds}
+use Rattle.store.proofs.Moved.{moves-new, total-fits, put-new, put-old, Spot, spot}
 use Rattle.store.proofs.words.put.Statement.{statement}
 use Rattle.store.proofs.words.put.Tie as tie
 
@@ -20,6 +21,9 @@ fits : (c : tie.Start) → total (told (c .args .kind) (c .args .slots)) ≤ len
 fits c = total-fits (c .args .kind) (c .args .slots) (c .args .store .now) (c .args .number) (long c) (c .pre .0)
 
 -- nothing is under the number
+none-at : (c : tie.After-enum-told) → let args = c .before .before .before .before .before .before .args in slotFor (args .number) (args .slots) ≡ Nothing
+none-at c = sym (c .before .before .find .ensures) ∙ c .enum-told .given .1
+
 new-at : (c : tie.After-enum-told)
     → let args = c .before .before .before .before .before .before .args in
     let others = c .before .before .before .used-by-others .result .total in
@@ -29,7 +33,7 @@ new-at c =
     let args = start .args in
     let used = c .before .before .before .used-by-others in
     put-new (args .kind) (args .slots) (args .store .now) (args .number) (long start) (start .pre .0) (args .words .now) (used .result .total)
-    (sym (c .before .before .find .ensures) ∙ c .enum-told .given .1) (used .ensures .1)
+    (none-at c) (used .ensures .1)
 
 -- a slot is found
 abbrev slot : tie.After-known-told → Slot
@@ -67,7 +71,10 @@ same-length : tie.Need-same-length
 same-length c = search needs
 
 returns : tie.Need-returns
-returns c = c .before .before .put-last .ensures ∙ new-at (c .before .before .before .before)
+returns c =
+    let told-at = c .before .before .before .before in
+    let args = told-at .before .before .before .before .before .before .args in
+    (c .before .before .put-last .ensures ∙ new-at told-at, sym (moves-new (args .number) (told (args .kind) (args .slots)) (none-holds (args .kind) (args .number) (args .slots) (none-at told-at))))
 
 area-requires : tie.Need-area-requires
 area-requires c κs = search needs
@@ -107,8 +114,12 @@ returns-2 c =
     let args = start .args in
     let used = c .before .before .before .before .before .before .before .before .before .before .before .before .before .before .used-by-others in
     let size = c .before .before .before .before .before .before .before .before .before .area in
-    c .before .before .put-last2 .ensures
-    ∙ put-old (args .kind) (args .slots) (args .store .now) (args .number) (long start) (start .pre .0) (args .words .now) _ (slot (c .before .before .before .before .before .before .before .before .before .before)) (size .result) (used .result .total) (found (c .before .before .before .before .before .before .before .before .before .before)) (size .ensures) (used .ensures .1) (c .before .before .before .before .before .before .move-down .ensures)
+    let move = c .before .before .before .before .before .before .move-down in
+    let found-at = c .before .before .before .before .before .before .before .before .before .before in (
+      c .before .before .put-last2 .ensures
+          ∙ put-old (args .kind) (args .slots) (args .store .now) (args .number) (long start) (start .pre .0) (args .words .now) _ (slot found-at) (size .result) (used .result .total) (found found-at) (size .ensures) (used .ensures .1) (move .ensures .0),
+      let s = spot-at found-at in omega (arith, move .ensures .1, size .ensures, used .ensures .1, s .left, s .later),
+    )
 
 pub put-spec : {M : Type 1} → statement M
 put-spec =
