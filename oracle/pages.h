@@ -54,7 +54,7 @@ static bool one_pass(size_t first, size_t end) {
     return true;
 }
 
-// Writes a word of each of the first pages, as often as told, from the first to the last or back.
+// Writes a byte of each of the first pages, as often as told, from the first to the last or back.
 static void watched_passes(void *from, size_t bytes, int times, bool back) {
     volatile char *at = from;
     watch_begin(from, bytes);

@@ -63,7 +63,7 @@ one-too-many : (answer (larger 1) (both 4) ≡ NoWords) × (answer (larger 1) (b
 unfolding answer both put empty first second larger
 one-too-many = (refl, refl, refl, refl)
 
--- ---- rule 8.8: beside two of two words one of three. The first sent again moves five, the second three, the last and a new one none
+-- ---- rule 8.8: three uploads, of two, two and three words. The first sent again moves five, the second three, the last and a new one none
 three : List Card
 three = told Texture (put (larger 3) (both 7) .slots)
 

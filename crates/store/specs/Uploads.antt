@@ -66,7 +66,7 @@ abbrev pub total : List Card → ℕ
 total [] = 0
 total (c ∷ cs) = c .words + total cs
 
--- rule 8.8: how many words those behind the one under n have; none if nothing is under n
+-- rule 8.8: how many words the uploads behind the one under n have; none if nothing is under n
 abbrev pub behind : ℕ → List Card → ℕ
 behind n [] = 0
 behind n (c ∷ cs) = cond (eqb (c .number) n) (total cs) (behind n cs)
