@@ -14,7 +14,7 @@ ghost use Rattle.screen.specs.Plane.{width, height, planeBytes};
 ghost use Rattle.sprite.specs.Sprite.{placeOf, spriteByte, spritePlane};
 ghost use Rattle.sprite.specs.Spans.{Placed, Reached, AtRow, AtPixel};
 
-// The pixel (x, y), under which texel n is. One with alpha 0 leaves it as it is.
+// Texel n, over the pixel (x, y). With alpha 0 it leaves the pixel as it is.
 fn draw_texel(plane: &mut [u8], texels: &[u32], s: Sprite, x: usize, y: usize, n: usize)
     requires { ⌜ length (now plane) ≡ planeBytes ⌝ }
     requires { ⌜ Placed s (length (now texels)) ⌝ }
