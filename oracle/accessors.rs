@@ -1,5 +1,6 @@
 // Everything from here on is appended to a copy of the original by `oracle/build`. It calls the original's
-// private functions and reads and writes its private state; it computes nothing of its own.
+// private functions and reads and writes its private state. It computes nothing of its own, with one
+// exception: sprites (command 10), which the original does not have, are drawn here.
 
 /// A clip vertex in the order of its fields: position 4, view position 3, normal 3, colour 4, texture 2.
 pub type VertexFloats = [f32; 16];
@@ -119,9 +120,71 @@ impl Vpu {
     }
 }
 
+/// Sprites, by their rules alone: a second reading of them, beside the port's. The original refuses command 10. Of
+/// the original it uses the textures that are held, and `write_pixel`, which dithers and leaves alone what is not on
+/// the plane.
+impl Vpu {
+    /// The payload is texture number, source x, source y, width, height, target x and target y.
+    pub fn draw_sprite(&mut self, p: &[u32; 7]) {
+        let Some((texture_width, texture_height, texels)) = self.textures.get(&p[0]).cloned() else {
+            self.status |= 1 << 3;
+            return;
+        };
+        let (texture_width, texture_height) = (texture_width as i64, texture_height as i64);
+        let (source_x, source_y) = (p[1] as i64, p[2] as i64);
+        let (width, height) = (p[3] as i64, p[4] as i64);
+        let (target_x, target_y) = (p[5] as i32 as i64, p[6] as i32 as i64);
+        if width == 0
+            || height == 0
+            || source_x + width > texture_width
+            || source_y + height > texture_height
+            || target_x < -8192
+            || target_x > 8192
+            || target_y < -8192
+            || target_y > 8192
+        {
+            self.status |= 1 << 3;
+            return;
+        }
+        for r in 0..height {
+            for c in 0..width {
+                let at = 4 * ((source_y + r) * texture_width + source_x + c) as usize;
+                let texel = [texels[at], texels[at + 1], texels[at + 2], texels[at + 3]];
+                let (x, y) = (target_x + c, target_y + r);
+                if texel[3] > 0 && x >= 0 && y >= 0 {
+                    self.write_pixel(x as usize, y as usize, texel);
+                }
+            }
+        }
+    }
+
+    /// The payload of a sprite, if this word is the last of seven. With another length it is the original's to refuse.
+    fn sprite_ended_by(&self, word: u32) -> Option<[u32; 7]> {
+        if self.expected != Some(1) || self.command[0] != 0x10 {
+            return None;
+        }
+        [&self.command[1..], &[word]].concat().try_into().ok()
+    }
+}
+
 /// Feeding, and what can be seen afterwards.
 impl Vpu {
     pub fn feed(&mut self, words: &[u32]) {
+        for word in words {
+            match self.sprite_ended_by(*word) {
+                Some(payload) => {
+                    self.draw_sprite(&payload);
+                    self.expected = None;
+                    self.command.clear();
+                }
+                None => self.feed_without_sprites(&[*word]),
+            }
+        }
+    }
+
+    /// The original alone, which refuses every command 10. What is timed does not look for sprites.
+    #[inline(never)]
+    pub fn feed_without_sprites(&mut self, words: &[u32]) {
         for word in words {
             self.push(*word);
         }

@@ -12,6 +12,8 @@ mod port;
 #[allow(dead_code)]
 #[path = "beside/sides.rs"]
 mod sides;
+#[path = "bench/sprites.rs"]
+mod sprites;
 #[path = "bench/works.rs"]
 mod works;
 
@@ -86,15 +88,22 @@ impl Side for Port {
     }
 }
 
-impl Side for Vpu {
+/// The original, with or without the sprites that are appended to it: to look for them takes time.
+struct Original<const SPRITES: bool>(Vpu);
+
+impl<const SPRITES: bool> Side for Original<SPRITES> {
     fn feed(&mut self, words: &[u32]) {
-        Vpu::feed(self, words);
+        if SPRITES {
+            self.0.feed(words);
+        } else {
+            self.0.feed_without_sprites(words);
+        }
     }
 }
 
 /// The best pass of each side, in nanoseconds for a unit of the work. The sides take turns, and have to show the same picture.
-fn time(port: &mut Port, work: &Work, passes: u64) -> Result<[f64; 2], String> {
-    let mut original = Vpu::new();
+fn time<const SPRITES: bool>(port: &mut Port, work: &Work, passes: u64) -> Result<[f64; 2], String> {
+    let mut original = Original::<SPRITES>(Vpu::new());
     port.reset(START);
     Side::feed(port, &work.before);
     Side::feed(&mut original, &work.before);
@@ -104,15 +113,15 @@ fn time(port: &mut Port, work: &Work, passes: u64) -> Result<[f64; 2], String> {
         best[0] = best[0].min(port.pass(work, rounds[0]));
         best[1] = best[1].min(original.pass(work, rounds[1]));
     }
-    let statuses = [port.state.status, original.status()];
-    match other_picture(port, &original) {
+    let statuses = [port.state.status, original.0.status()];
+    match other_picture(port, &original.0) {
         None if statuses == [work.status; 2] => {}
         other => return Err(format!("{}: status {statuses:x?}, other picture: {other:?}", work.name)),
     }
     Ok([0, 1].map(|side| best[side] as f64 / (rounds[side] * work.count as u64) as f64))
 }
 
-/// Nearly all draws of a work have to change a pixel. If they are refused, none may.
+/// Nearly all draws of a work have to change a pixel. If they are refused or meant to be unseen, none may.
 fn see(work: &Work) -> Result<(), String> {
     let (mut judge, mut watch) = (Judge::new(), Watch::default());
     judge.reset(START);
@@ -120,7 +129,8 @@ fn see(work: &Work) -> Result<(), String> {
         judge.feed(words, &mut watch);
     }
     let (draws, changed) = (watch.draws, watch.changed);
-    let as_meant = if work.status == 0 { changed * 20 >= draws * 19 } else { changed == 0 };
+    let unseen = work.unseen || work.status != 0;
+    let as_meant = if unseen { changed == 0 } else { changed * 20 >= draws * 19 };
     if as_meant {
         return Ok(());
     }
@@ -153,7 +163,8 @@ fn table(port: &mut Port, works: &[Work], arguments: &Arguments) -> Result<(), S
         std::fs::write(&file, little_endian(&encode_calls(&calls)))
             .map_err(|error| format!("{file}: {error}"))?;
         see(work)?;
-        let [port, original] = time(port, work, passes)?;
+        let [port, original] =
+            if work.sprites { time::<true>(port, work, passes)? } else { time::<false>(port, work, passes)? };
         let (name, unit, ratio) = (&work.name, work.unit, port / original);
         println!("| {name} | {unit} | {} | {} | {ratio:.2} |", duration(port), duration(original));
     }
@@ -184,7 +195,7 @@ const HEAD: &str = "Port and original are in one process and are fed the same wo
 A pass is as many rounds as take at least 20 milliseconds, and a figure is the best pass. The sides take turns, pass by pass. After each work,
 plane, both depths and status have to be the same. What a work uploads or sets first is not counted, and neither are clears of the depths between
 rounds. All memory that a work uses has been touched before, so the first use of a page is not counted. What the original allocates for each
-command is counted.
+command is counted. The original has no sprites: for command 10 its column is the reading of their rules that the oracle appends to it.
 
 This page is made by the program. `docs/SPEED.md` has what was changed for speed, what was tried, and which run this is.
 ";
@@ -200,6 +211,13 @@ const ABOUT_GROWTH: &str = "## Growth
 The same for sizes that grow, with the time for a word, a pixel of the box or a triangle. If the cost is linear, it stays level or falls.
 ";
 
+const ABOUT_SPRITES: &str = "## Sprites
+
+The original refuses 10. Its column for 10 is `draw_sprite` of `oracle/accessors.rs`, which goes through all texels of the source and calls the
+original's `write_pixel`. A round has 100 sprites of a whole texture, anywhere on the plane if nothing else is said. The two triangles have the same
+texture, and the original covers the same pixels with them: this is counted. A pixel is one on the plane.
+";
+
 fn run() -> Result<(), String> {
     let arguments = Arguments::parse(&std::env::args().skip(1).collect::<Vec<_>>())?;
     arguments.expect(0, &["scenes", "out", "machine", "compilers", "passes", "only"])?;
@@ -210,7 +228,9 @@ fn run() -> Result<(), String> {
     println!("{ABOUT_WORKS}");
     table(&mut port, &works::all(arguments.wanted("scenes")?)?, &arguments)?;
     println!("{ABOUT_GROWTH}");
-    table(&mut port, &works::growing(), &arguments)
+    table(&mut port, &works::growing(), &arguments)?;
+    println!("{ABOUT_SPRITES}");
+    table(&mut port, &sprites::all()?, &arguments)
 }
 
 fn main() {

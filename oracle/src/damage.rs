@@ -8,6 +8,8 @@ use crate::streams::{Command, Stream};
 /// Values at and beyond the ends of the ranges that the commands test.
 const BOUNDARIES: [u32; 12] = [0, 1, 2, 3, 7, 8, 9, 1025, 0x4000_0001, 0x7fff_ffff, 0x8000_0000, 0xffff_ffff];
 
+/// Opcodes that no command has, and 10, which is that of sprites. It stays in the list so that streams keep their bytes;
+/// what is sent under it here never has the seven words of a sprite, and is refused.
 const UNKNOWN_OPCODES: [u8; 12] = [0x03, 0x05, 0x0f, 0x10, 0x11, 0x13, 0x1c, 0x20, 0x7f, 0x80, 0x92, 0xff];
 
 /// A valid command of any kind. Flat coordinates stay on or near the screen.
@@ -94,12 +96,7 @@ pub fn spoil(stream: &mut Stream, random: &mut Random) {
 /// From some command on, one of the matrices has no inverse or makes positions overflow.
 pub fn odd_matrix(stream: &mut Stream, random: &mut Random) {
     let matrix = if random.chance(50) { floats::singular(random) } else { floats::scale(f32::MAX) };
-    let mut inserted = Stream::default();
-    inserted.send(&Command::matrix(random.below(3), &matrix));
+    let command = Command::matrix(random.below(3), &matrix);
     let place = random.below(stream.headers.len() as u32) as usize;
-    let at = stream.headers[place];
-    let by = inserted.words.len();
-    stream.words.splice(at..at, inserted.words);
-    stream.headers.insert(place, at);
-    stream.headers[place + 1..].iter_mut().for_each(|header| *header += by);
+    stream.insert(place, &command);
 }

@@ -1,6 +1,7 @@
 //! The judge of a run: the original, with what the rules refuse and the original does not (flat triangles beyond 8192,
-//! uploads without room) withheld from it. It frames the words itself and hands over whole commands; status, slots and the
-//! command area are its own. The reason for every command is compared with what the original makes of the command.
+//! uploads without room) withheld from it. Sprites are drawn by the reading that is appended to the original. The judge
+//! frames the words itself and hands over whole commands; status, slots and the command area are its own. The reason for
+//! every command is compared with what the original makes of the command.
 
 use crate::kept::{List, Upload};
 use crate::original::Vpu;
@@ -81,9 +82,13 @@ impl Judge {
             return None;
         }
         let command = std::mem::take(&mut self.begun);
-        let reader = Reader { vpu: &self.original, textures: &self.textures, models: &self.models };
-        let reason = reader.refusal((command[0] >> 24) as u8, &command[1..]);
+        let reason = self.reader().refusal((command[0] >> 24) as u8, &command[1..]);
         self.end(&command, reason, watch)
+    }
+
+    /// Reads commands under the present settings and uploads.
+    pub fn reader(&self) -> Reader<'_> {
+        Reader { vpu: &self.original, textures: &self.textures, models: &self.models }
     }
 
     /// Takes a whole command, or a header that is dropped, and why it is refused. Returns what was misread.

@@ -17,6 +17,7 @@ pub mod reasons;
 pub mod replay;
 pub mod shapes;
 pub mod singles;
+pub mod sprites;
 pub mod steps;
 pub mod stored;
 pub mod streams;

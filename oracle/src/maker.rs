@@ -2,6 +2,7 @@
 
 use crate::floats;
 use crate::random::Random;
+use crate::sprites::{Alpha, Sheet};
 use crate::streams::{Command, Corner, Stream, Triangle};
 
 #[derive(Clone, Copy)]
@@ -165,6 +166,13 @@ impl Maker {
         let command = self.texture(number, width, height);
         self.send(command);
         remember(&mut self.textures, number);
+    }
+
+    /// A texture with alphas for sprites.
+    pub fn upload_sheet(&mut self, sheet: Sheet, alpha: Alpha) {
+        let command = sheet.upload(alpha, &mut self.random);
+        self.send(command);
+        remember(&mut self.textures, sheet.number);
     }
 
     pub fn upload_small_texture(&mut self, number: u32) {

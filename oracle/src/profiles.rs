@@ -26,7 +26,7 @@ const fn outside(profile: Profile) -> Profile {
 }
 
 #[rustfmt::skip]
-pub static PROFILES: [Profile; 24] = [
+pub static PROFILES: [Profile; 25] = [
     profile("clear", steps::clears, 14,
         "clears with every flag value, known or not, between draws"),
     profile("settings", steps::settings, 20,
@@ -75,6 +75,8 @@ pub static PROFILES: [Profile; 24] = [
         "the same, with uploads that are one word or one triangle too large")),
     outside(profile("crowded", steps::crowded, 1,
         "70 textures and 70 models, more than the port holds")),
+    profile("sprites", steps::sprites, 20,
+        "sprites at, over and beyond every edge of the plane and of a texture, and wrong ones, among triangles and clears"),
 ];
 
 /// The profile of a name, or all of them for `all`.
@@ -91,6 +93,7 @@ impl Profile {
     pub fn store(&self) -> usize {
         match self.name {
             "largest" => 1_200_000,
+            "sprites" => 600_000,
             "resend" | "overfull" => steps::ROOM as usize,
             _ => 65_536,
         }

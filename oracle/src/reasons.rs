@@ -3,7 +3,7 @@
 
 use crate::kept::List;
 use crate::original::{call_inverse_transpose_3x3, call_multiply_matrix, call_transform_matrix, Vpu};
-use crate::shapes::out_of_reach;
+use crate::shapes::{out_of_reach, FLAT_REACH};
 
 #[derive(Clone, Copy, Debug, PartialEq, Eq, PartialOrd, Ord)]
 pub enum Reason {
@@ -41,10 +41,11 @@ pub const HEADERS: Row = ("header", &[ZeroOpcode, CountTooLarge]);
 pub const OTHERS: Row = ("others", &[UnknownOpcode]);
 
 #[rustfmt::skip]
-pub const COMMANDS: [(u8, Row); 12] = [
+pub const COMMANDS: [(u8, Row); 13] = [
     (0x01, ("01", &[WrongLength, OutOfRange])),
     (0x02, ("02", &[WrongLength, OutOfRange, NotFinite])),
     (0x04, ("04", &[WrongLength, OutOfRange])),
+    (0x10, ("10", &[WrongLength, OutOfRange, NotHeld])),
     (0x12, ("12", &[WrongLength, OutOfRange])),
     (0x14, ("14", &[WrongLength, NotFinite, Position])),
     (0x15, ("15", &[WrongLength, OutOfRange, NotFinite])),
@@ -84,6 +85,7 @@ fn length(opcode: u8, count: usize) -> Option<Reason> {
         0x01 | 0x1b => count == 2,
         0x02 | 0x15 => count == 17,
         0x04 => count == 3,
+        0x10 => count == 7,
         0x12 => count == 11,
         0x14 => count == 12,
         0x16 => count == 21,
@@ -102,6 +104,7 @@ impl Reader<'_> {
             0x01 => when(p[0] > 1 || p[1] > 1, OutOfRange),
             0x02 => when(p[0] > 2, OutOfRange).or_else(|| finite(&p[1..])),
             0x04 => when(p[0] > 3, OutOfRange),
+            0x10 => self.sprite(p).map(|(reason, _)| reason),
             0x12 => when(out_of_reach(p).is_some(), OutOfRange),
             0x14 => self.transformed(p, 4),
             0x15 => when(p[0] > 7 || p[1] > 1, OutOfRange).or_else(|| finite(&p[2..])),
@@ -112,6 +115,25 @@ impl Reader<'_> {
             0x1a => self.model(p),
             _ => self.draw_model(p),
         })
+    }
+
+    /// Why a sprite is refused, and at which word of its payload.
+    pub fn sprite(&self, p: &[u32]) -> Option<(Reason, usize)> {
+        if p.len() != 7 {
+            return Some((WrongLength, 0));
+        }
+        let Some(texture) = self.textures.find(p[0]) else { return Some((NotHeld, 0)) };
+        let too_far = |start: u32, count: u32, side: u32| start as u64 + count as u64 > side as u64;
+        let out_of_reach = |word: u32| !(-FLAT_REACH..=FLAT_REACH).contains(&(word as i32));
+        let checks = [
+            (p[3] == 0, 3),
+            (p[4] == 0, 4),
+            (too_far(p[1], p[3], texture.sides[0]), 3),
+            (too_far(p[2], p[4], texture.sides[1]), 4),
+            (out_of_reach(p[5]), 5),
+            (out_of_reach(p[6]), 6),
+        ];
+        checks.into_iter().find(|(refused, _)| *refused).map(|(_, word)| (OutOfRange, word))
     }
 
     fn invertible(&self) -> Option<Reason> {

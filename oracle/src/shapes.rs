@@ -26,7 +26,7 @@ pub const KINDS: [(&str, Kind); 7] = [
     ("textured-2", Kind::Textured(2)),
 ];
 
-/// How far a flat coordinate may be from 0: rule 4.2 of docs/RULES.md.
+/// How far a flat coordinate may be from 0 (rule 4.2 of docs/RULES.md), and a sprite's target.
 pub const FLAT_REACH: i32 = 8192;
 
 /// The words of command 12 that are coordinates.

@@ -189,7 +189,7 @@ fn draws(counts: &Counts) -> Count {
 
 /// A row for each command that the machine knows; all other opcodes in one row.
 fn print_counts(counts: &Counts) {
-    const KNOWN: [u8; 12] = [0x01, 0x02, 0x04, 0x12, 0x14, 0x15, 0x16, 0x17, 0x18, 0x19, 0x1a, 0x1b];
+    const KNOWN: [u8; 13] = [0x01, 0x02, 0x04, 0x10, 0x12, 0x14, 0x15, 0x16, 0x17, 0x18, 0x19, 0x1a, 0x1b];
     println!("  {:>7} {:>8} {:>8} {:>8}", "command", "sent", "accepted", "changed");
     let mut other = Count::default();
     for (opcode, count) in counts {

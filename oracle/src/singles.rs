@@ -1,27 +1,38 @@
 //! Single draws under random settings: what comes before a draw, and the draw.
 
+mod sprites;
+
+pub use sprites::{families, largest_upload, Family, Meant};
+
 use crate::maker::Maker;
 use crate::random::Random;
 use crate::steps;
 use crate::streams::{Command, Stream};
 
-pub const KINDS: [u8; 7] = [0x12, 0x14, 0x16, 0x18, 0x19, 0x1b, 0x04];
+pub const KINDS: [u8; 8] = [0x10, 0x12, 0x14, 0x16, 0x18, 0x19, 0x1b, 0x04];
 
 pub struct Single {
     pub settings: Vec<u32>,
     pub opcode: u8,
     pub draw: Vec<u32>,
+    /// A sprite's family.
+    pub family: Option<usize>,
 }
 
-/// The single draw of this index: the kinds take turns.
-pub fn single(seed: u64, index: u64) -> Single {
+/// The single draw of this index: the kinds take turns, and so do the families of sprites.
+pub fn single(kinds: &[u8], families: &[Family], seed: u64, index: u64) -> Single {
     let mut maker = Maker::new(Random::named("single", seed, index));
-    let opcode = KINDS[(index % 7) as usize];
+    let (turn, place) = (index / kinds.len() as u64, index % kinds.len() as u64);
+    let opcode = kinds[place as usize];
+    let family = (opcode == 0x10).then(|| sprites::family_of(families, turn));
     settings(&mut maker);
-    let draw = draw(&mut maker, opcode);
+    let draw = match family {
+        Some(family) => sprites::draw(&mut maker, &families[family]),
+        None => draw(&mut maker, opcode),
+    };
     let mut stream = Stream::default();
     stream.send(&draw);
-    Single { settings: maker.stream.words, opcode, draw: stream.words }
+    Single { settings: maker.stream.words, opcode, draw: stream.words, family }
 }
 
 fn settings(maker: &mut Maker) {

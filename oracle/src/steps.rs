@@ -4,6 +4,7 @@ mod faults;
 mod flat;
 mod odd_floats;
 mod resend;
+mod sprites;
 mod triangles;
 mod uploads;
 
@@ -11,6 +12,7 @@ pub use faults::{broken_end, cuts, damaged, framing};
 pub use flat::{flat, flat_beyond, flat_sides};
 pub use odd_floats::{extremes, specials, NAN_DEPTH};
 pub use resend::{overfull, resend, ROOM};
+pub use sprites::sprites;
 pub use triangles::{clipping, matrices, textured, transformed, unusual_matrices};
 pub use uploads::{crowded, full, large, largest, models, numbers, uploads};
 

@@ -4,6 +4,7 @@ mod cases;
 mod extras;
 mod refusals;
 mod scene;
+mod sprites;
 mod traps;
 
 use crate::cuts::few_calls;
@@ -25,6 +26,7 @@ pub fn all() -> Vec<Stored> {
     streams.extend(refusals::refusals());
     streams.extend(extras::extras());
     streams.extend(PROFILES.iter().filter(|profile| profile.inside_domain).flat_map(generated));
+    streams.extend(sprites::refused());
     streams
 }
 
@@ -33,6 +35,7 @@ fn count(profile: &Profile) -> u64 {
     match profile.name {
         "largest" => 0,
         "large" | "full" | "resend" => 2,
+        "sprites" => 10,
         "mixed" => 16,
         _ => 8,
     }

@@ -75,6 +75,12 @@ impl Command {
         Self::new(0x04, vec![flags, rgba, unused])
     }
 
+    /// Each place is x and y, the size is width and height.
+    pub fn sprite(number: u32, source: [u32; 2], size: [u32; 2], target: [i32; 2]) -> Self {
+        let target = target.map(|place| place as u32);
+        Self::new(0x10, [&[number], &source[..], &size, &target].concat())
+    }
+
     pub fn flat(corners: [[i32; 3]; 3], rgb: u32, shade: u32) -> Self {
         let mut words: Vec<u32> = corners.concat().iter().map(|n| *n as u32).collect();
         words.extend([rgb, shade]);
@@ -149,6 +155,16 @@ impl Stream {
     pub fn send_header(&mut self, word: u32) {
         self.headers.push(self.words.len());
         self.words.push(word);
+    }
+
+    /// Puts a command before the header of this number.
+    pub fn insert(&mut self, place: usize, command: &Command) {
+        let mut inserted = Self::default();
+        inserted.send(command);
+        let (at, by) = (self.headers[place], inserted.words.len());
+        self.words.splice(at..at, inserted.words);
+        self.headers.insert(place, at);
+        self.headers[place + 1..].iter_mut().for_each(|header| *header += by);
     }
 
     pub fn cut_short(&mut self, words: usize) {

@@ -4,7 +4,7 @@ use crate::original::Vpu;
 use crate::reasons::{row, Reason, Row};
 use std::collections::BTreeMap;
 
-pub const DRAWS: [u8; 6] = [0x12, 0x14, 0x16, 0x18, 0x19, 0x1b];
+pub const DRAWS: [u8; 7] = [0x10, 0x12, 0x14, 0x16, 0x18, 0x19, 0x1b];
 
 /// Feeds one word; returns the opcode of the command that it ends.
 pub fn ended_by(vpu: &mut Vpu, word: u32) -> Option<u8> {

@@ -51,14 +51,14 @@ finds n (v ∷ h) = go (finds n h) (eqb (v .number) n) refl
     go f false e = later (eqb-false (v .number) n e) (find n h) f
 
 -- ---- the checks after the number never give the reason that it is not held
-abbrev Other : Verdict → Type 0
+abbrev pub Other : Verdict → Type 0
 Other v = (i : ℕ) → v ≡ Refused NotHeld i → ⊥
 
-done-other : Other Done
+pub done-other : Other Done
 done-other i e = let z : _≡_ {A = ℕ} 0 1 = cc in omega arith
 
 -- another reason is another
-differs : {r : Reason} (j : ℕ) → (numberOf r ≡ 7 → ⊥) → Other (Refused r j)
+pub differs : {r : Reason} (j : ℕ) → (numberOf r ≡ 7 → ⊥) → Other (Refused r j)
 differs j d i e = d (ap number e)
   where
     number : Verdict → ℕ

@@ -1,4 +1,4 @@
--- Demand 2: inside the domain, plane, both depths and status after each call are those of the original as it reads. Word by word the plain machine of demand 3 is the original, since there every upload has room and every flat triangle is near. Assumes nothing.
+-- Demand 2: inside the domain, plane, both depths and status after each call are those of the original with the sprites of section 11; if no sprite is accepted, those of the original as it is (proofs/Sprites.antt). Word by word the plain machine of demand 3 is the original, since there every upload has room and every flat triangle is near. Assumes nothing.
 use Prim.Native.Nat.{ℕ, _-_, _/_, _%_}
 use mathlib.Core.Path.{_≡_, refl, sym, ap, _∙_}
 use mathlib.Core.Bool.{Bool, true, false, cond, _&&_}
@@ -39,7 +39,7 @@ use Rattle.vpu.specs.Calls.{Small, reset}
 use Rattle.run.proofs.Laws.{run-append}
 use Rattle.claims.specs.Plain.{Past, history, accepted, asPast, plainStart}
 use Rattle.claims.specs.Runs.{resetOn, Call, afterAll, AllAllowed, after, feeds, own, sizes, plainAfter, plainAll}
-use Rattle.claims.specs.Original.{Vpu, new, inserted, kept, arm, execute, marked, waiting, await, pump, push, pushes}
+use Rattle.claims.specs.Original.{Vpu, new, inserted, kept, copies, arm, execute, marked, waiting, await, pump, push, pushes}
 use Rattle.claims.specs.Domain.{Near, Within, Fine, AllFine, InDomain, calls, singles}
 use Rattle.claims.proofs.Reasons.{told-so}
 use Rattle.claims.proofs.Demand3.{demand3, reset-again}
@@ -58,9 +58,9 @@ unfolding flatPainted flatVerdict
 flat-told held s p n h = told-as held s 0x12 p command-of-12 ∙ ap (toldBy s) (painted-whole held s draw.Flat p n) ∙ rw (near-done p corners h)
 
 -- a near triangle is drawn by both, and the other arms are one text
-arm-told : (held : Look) (s : Settings) (op : ℕ) (p : List ℕ) → (op ≡ 0x12 → length p ≡ 11 → Near p corners) → arm held s op p ≡ told held s op p
+arm-told : (held : Look) (s : Settings) (op : ℕ) (p : List ℕ) → (op ≡ 0x12 → length p ≡ 11 → Near p corners) → arm copies held s op p ≡ told held s op p
 unfolding arm
-arm-told held s op p h = go (eqb op 0x12) refl (eqb (length p) 11) refl
+arm-told held s op p h = ten (eqb op 0x10) refl
   where
     go : (a : Bool) → eqb op 0x12 ≡ a → (b : Bool) → eqb (length p) 11 ≡ b → cond (a && b) (tells Done s (flat (triOf p) ∷ [])) (told held s op p) ≡ told held s op p
     go true e true f =
@@ -69,6 +69,11 @@ arm-told held s op p h = go (eqb op 0x12) refl (eqb (length p) 11) refl
         rw o (sym (flat-told held s p n (h o n)))
     go true e false f = refl
     go false e b f = refl
+
+    ten : (a : Bool) → eqb op 0x10 ≡ a
+        → cond a (told held s 0x10 p) (cond (eqb op 0x12 && eqb (length p) 11) (tells Done s (flat (triOf p) ∷ [])) (told held s op p)) ≡ told held s op p
+    ten true e = rw (eqb-true op 0x10 e)
+    ten false e = go (eqb op 0x12) refl (eqb (length p) 11) refl
 
 -- what is to be kept passed its checks
 abbrev Passes : Told → Type 0
@@ -186,11 +191,11 @@ module _ (size : Kind → ℕ) where
     -- a command of the domain, begun or gathered on these
     execute-agrees : (op n : ℕ) (h : Past) (command : List ℕ) (left : ℕ) → K .look h ≡ K .look (m .control .box) → command ≡ op ∷ h .payload
         → Within size (record { settings = m .control .settings; notes = m .control .notes; opcode = op; wanted = n; box = h })
-        → Goes (m .picture) (control.execute K (record { settings = m .control .settings; notes = m .control .notes; opcode = op; wanted = n; box = h })) (execute (waiting v command left))
+        → Goes (m .picture) (control.execute K (record { settings = m .control .settings; notes = m .control .notes; opcode = op; wanted = n; box = h })) (execute copies (waiting v command left))
     unfolding control.execute execute
     execute-agrees op n h command left looks e d =
         let t : Told = told (K .look h) (m .control .settings) op (h .payload) in
-        let same : arm (v .uploads) (v .settings) op (h .payload) ≡ t = rw (sym (a .uploads), sym looks, sym (a .settings)) (arm-told (K .look h) (m .control .settings) op (h .payload) (d .near)) in
+        let same : arm copies (v .uploads) (v .settings) op (h .payload) ≡ t = rw (sym (a .uploads), sym looks, sym (a .settings)) (arm-told (K .look h) (m .control .settings) op (h .payload) (d .near)) in
         rw (e, same)
         (record {
           goes = record {
@@ -208,7 +213,7 @@ module _ (size : Kind → ℕ) where
     unfolding paintsOn
     dropped-agrees op w bit e b = record { goes = record { picture = a .picture; settings = a .settings; uploads = a .uploads; status = rw (a .status, e); begun = b } }
 
-    header-agrees : (w : ℕ) → m .control .wanted ≡ 0 → m .control .box .payload ≡ [] → v .expected ≡ none → Goes (m .picture) (word K (m .control) w) (pump v w none)
+    header-agrees : (w : ℕ) → m .control .wanted ≡ 0 → m .control .box .payload ≡ [] → v .expected ≡ none → Goes (m .picture) (word K (m .control) w) (pump copies v w none)
     unfolding word header await paintsOn
     header-agrees w z p x =
         let op : ℕ = w / 16777216 in
@@ -224,7 +229,7 @@ module _ (size : Kind → ℕ) where
     look-added w h Model = refl
 
     gather-agrees : (w : ℕ) → (m .control .wanted ≡ 0 → ⊥) → v .command ≡ m .control .opcode ∷ m .control .box .payload → Fine size m w
-        → Goes (m .picture) (word K (m .control) w) (pump v w (some (m .control .wanted)))
+        → Goes (m .picture) (word K (m .control) w) (pump copies v w (some (m .control .wanted)))
     unfolding word gather await paintsOn
     gather-agrees w z c fine =
         let looks : K .look (K .add w (m .control .box)) ≡ K .look (m .control .box) = λ i k n. ap (find n) (look-added w (m .control .box) k) i in
@@ -234,18 +239,18 @@ module _ (size : Kind → ℕ) where
         (λ e. execute-agrees (m .control .opcode) (m .control .wanted - 1) (K .add w (m .control .box)) (v .command ++ (w ∷ [])) (m .control .wanted - 1) looks more (fine (eqb-true (m .control .wanted) 1 e)))
         (λ e. record { goes = record { picture = a .picture; settings = a .settings; uploads = looks ∙ a .uploads; status = a .status; begun = busy (λ y. eqb-false (m .control .wanted) 1 e (omega arith)) refl more } }))
 
-    word-agrees : (w : ℕ) → Fine size m w → Agree (wordOn K m w) (push v w)
+    word-agrees : (w : ℕ) → Fine size m w → Agree (wordOn K m w) (push copies v w)
     unfolding push
     word-agrees w fine = go (a .begun)
       where
-        go : Begun (m .control) v → Agree (wordOn K m w) (pump v w (v .expected))
-        go (idle z p x) = rw (ap (pump v w) x) (header-agrees w z p x .goes)
-        go (busy z x c) = rw (ap (pump v w) x) (gather-agrees w z c fine .goes)
+        go : Begun (m .control) v → Agree (wordOn K m w) (pump copies v w (v .expected))
+        go (idle z p x) = rw (ap (pump copies v w) x) (header-agrees w z p x .goes)
+        go (busy z x c) = rw (ap (pump copies v w) x) (gather-agrees w z c fine .goes)
 
-  run-agrees : (ws : List ℕ) (m : Seen Past) (v : Vpu) → Agree m v → AllFine size m ws → Agree (run K m ws) (pushes v ws)
+  run-agrees : (ws : List ℕ) (m : Seen Past) (v : Vpu) → Agree m v → AllFine size m ws → Agree (run K m ws) (pushes copies v ws)
   unfolding run pushes AllFine
   run-agrees [] m v a f = a
-  run-agrees (w ∷ ws) m v a f = run-agrees ws (wordOn K m w) (push v w) (word-agrees m v a w (f .0)) (f .1)
+  run-agrees (w ∷ ws) m v a f = run-agrees ws (wordOn K m w) (push copies v w) (word-agrees m v a w (f .0)) (f .1)
 
   start-agrees : Agree plainStart new
   start-agrees = record { picture = refl; settings = refl; uploads = λ i k n. nothing-yet k n i; status = refl; begun = idle refl refl refl }
@@ -288,8 +293,8 @@ domain-begins size a b d = (small-begins a b (d .0) .0, begins size a b plainSta
 module _ (P : List ℕ) (D : List ℤ) (F : List Float) (C T M : List ℕ) (done : reset P D F C T M .answer ≡ 0) where
   -- after each call: for any calls in the domain, and so for those that began them, by `domain-begins`
   pub demand2 : (wss : List (List ℕ)) → InDomain (sizes T M) (flatten wss)
-      → (afterAll (reset P D F C T M .machine) (calls wss) .picture ≡ pushes new (flatten wss) .picture)
-      × (afterAll (reset P D F C T M .machine) (calls wss) .control .notes .status ≡ pushes new (flatten wss) .status)
+      → (afterAll (reset P D F C T M .machine) (calls wss) .picture ≡ pushes copies new (flatten wss) .picture)
+      × (afterAll (reset P D F C T M .machine) (calls wss) .control .notes .status ≡ pushes copies new (flatten wss) .status)
   demand2 wss d =
       let plain = demand3 P D F C T M done (calls wss) (allowed wss (reset P D F C T M .machine) (d .0)) in
       let o = run-agrees (sizes T M) (flatten wss) plainStart new (start-agrees (sizes T M)) (d .1) in
@@ -298,20 +303,20 @@ module _ (P : List ℕ) (D : List ℤ) (F : List Float) (C T M : List ℕ) (done
 
   -- after each call, whatever words come after it
   pub demand2-each : (wss : List (List ℕ)) (rest : List ℕ) → InDomain (sizes T M) (flatten wss ++ rest)
-      → (afterAll (reset P D F C T M .machine) (calls wss) .picture ≡ pushes new (flatten wss) .picture)
-      × (afterAll (reset P D F C T M .machine) (calls wss) .control .notes .status ≡ pushes new (flatten wss) .status)
+      → (afterAll (reset P D F C T M .machine) (calls wss) .picture ≡ pushes copies new (flatten wss) .picture)
+      × (afterAll (reset P D F C T M .machine) (calls wss) .control .notes .status ≡ pushes copies new (flatten wss) .status)
   demand2-each wss rest d = demand2 wss (domain-begins (sizes T M) (flatten wss) rest d)
 
   -- and word by word
   pub demand2-words : (ws : List ℕ) → InDomain (sizes T M) ws
-      → (afterAll (reset P D F C T M .machine) (calls (singles ws)) .picture ≡ pushes new ws .picture)
-      × (afterAll (reset P D F C T M .machine) (calls (singles ws)) .control .notes .status ≡ pushes new ws .status)
+      → (afterAll (reset P D F C T M .machine) (calls (singles ws)) .picture ≡ pushes copies new ws .picture)
+      × (afterAll (reset P D F C T M .machine) (calls (singles ws)) .control .notes .status ≡ pushes copies new ws .status)
   demand2-words ws d = rw (singles-flat ws) at (demand2 (singles ws) (rw (singles-flat ws) d))
 
 -- a reset in the midst of a run, which is answered 0: whatever calls came before it, in the domain or not
 pub demand2-again : (P : List ℕ) (D : List ℤ) (F : List Float) (C T M : List ℕ) (done : reset P D F C T M .answer ≡ 0) (cs : List Call)
     → AllAllowed (reset P D F C T M .machine) cs → (wss : List (List ℕ))
     → InDomain (sizes (afterAll (reset P D F C T M .machine) cs .control .box .textures .words) (afterAll (reset P D F C T M .machine) cs .control .box .models .words)) (flatten wss)
-    → (afterAll (resetOn (afterAll (reset P D F C T M .machine) cs) .machine) (calls wss) .picture ≡ pushes new (flatten wss) .picture)
-    × (afterAll (resetOn (afterAll (reset P D F C T M .machine) cs) .machine) (calls wss) .control .notes .status ≡ pushes new (flatten wss) .status)
+    → (afterAll (resetOn (afterAll (reset P D F C T M .machine) cs) .machine) (calls wss) .picture ≡ pushes copies new (flatten wss) .picture)
+    × (afterAll (resetOn (afterAll (reset P D F C T M .machine) cs) .machine) (calls wss) .control .notes .status ≡ pushes copies new (flatten wss) .status)
 demand2-again P D F C T M done cs before = demand2 _ _ _ _ _ _ (reset-again P D F C T M done cs before)

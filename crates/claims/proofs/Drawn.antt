@@ -21,7 +21,8 @@ use Rattle.face.specs.declared.Setup.the-variants.{Drawn}
 use Rattle.face.specs.Face.{corner, pointOf, edgeOf, minOf, pastOf, boundsOf, faceOf, setupOf}
 use Rattle.face.specs.Pixel.{within, weight0, weight1, weight2, insideOf, covers, baryOf, mixOf, depthAt, passesOf}
 use Rattle.face.specs.declared.Corners.{Corners}
-use Rattle.raster.specs.Ink.{byteOf, rgbaOf, uvOf, samplerOf, nibblesOf, halfOf, texelOf, plainOf, tonedOf, shadeOf}
+use Rattle.texel.specs.Texel.{nibblesOf, halfOf, texelAt}
+use Rattle.raster.specs.Ink.{byteOf, rgbaOf, uvOf, samplerOf, texelOf, plainOf, tonedOf, shadeOf}
 use Rattle.raster.specs.Triangles.{toneOf, texturedInk, texturedPlane}
 use Rattle.raster.proofs.Cases.{place-one}
 use Rattle.stroke.specs.Strokes.{stroke, strokeOn, fanOn, triangleOn}
@@ -80,7 +81,7 @@ covered = refl
 
 -- ---- the alpha that it leaves there, of a 1 × 1 texture of the word w
 texel-one : (w : ℕ) (u v b : Corners) → texelOf (w ∷ []) (record { width = 1; height = 1; u = u; v = v }) b ≡ nibblesOf (w / 65536)
-unfolding texelOf halfOf
+unfolding texelOf texelAt halfOf
 texel-one w u v b = rw (place-one u v b)
 
 alpha-ink : (w old : ℕ) → inkAt (w ∷ []) (texturedInk tri 1 1 0 (flatColor tri)) face 3 old ≡ alphaOf w

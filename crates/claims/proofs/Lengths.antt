@@ -4,6 +4,7 @@ use mathlib.Core.Path.{_≡_, refl, _∙_}
 use mathlib.Core.List.{List, [], _∷_}
 use lib.ListN.{length, length-replicate}
 use Rattle.laws.proofs.Cells.{length-mapAt}
+use Rattle.sprite.specs.Sprite.{spritePlane}
 use Rattle.flat.specs.Tri.{triDepths, triPlane}
 use Rattle.stroke.proofs.Laws.{stroke-long}
 use Rattle.execute.specs.Paints as paints
@@ -21,9 +22,10 @@ then : {p q r : Picture} → Long p q → Long q r → Long p r
 then a b = record { plane = a .plane ∙ b .plane; depth = a .depth ∙ b .depth; depthF = a .depthF ∙ b .depthF }
 
 paint-long : (a : Paint) (p : Picture) → Long (paintOn a p) p
-unfolding paintOn triDepths triPlane
+unfolding paintOn spritePlane triDepths triPlane
 paint-long (paints.fill c) p = record { plane = length-mapAt _ (p .plane); depth = refl; depthF = refl }
 paint-long paints.far p = record { plane = refl; depth = length-replicate _ _; depthF = length-replicate _ _ }
+paint-long (paints.sprite s texels) p = record { plane = length-mapAt _ (p .plane); depth = refl; depthF = refl }
 paint-long (paints.flat t) p = record { plane = length-mapAt _ (p .plane); depth = length-mapAt _ (p .depth); depthF = refl }
 paint-long (paints.stroked k) p =
     let s = stroke-long k (seenOf p) in

@@ -9,6 +9,7 @@ pub mod Demand2
 pub mod Domain
 pub mod Status
 pub mod Refused
+pub mod Sprites
 pub mod Calls
 pub mod Flats
 pub mod Table

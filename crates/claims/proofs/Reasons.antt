@@ -7,7 +7,7 @@ use mathlib.Core.List.{List, [], _∷_}
 use lib.Dec.{eqb, leb, ltb}
 use lib.Ieee.{Float}
 use lib.Ieee.Scale.{finite}
-use lib.ListN.{length, drop}
+use lib.ListN.{length, drop, getD}
 use Rattle.vector.specs.declared.normal.Inverse.{Inverse}
 use Rattle.vector.specs.declared.normal.Inverse.the-variants.{Of, Singular}
 use Rattle.clip.specs.declared.vertex.ClipVertex.{ClipVertex}
@@ -20,6 +20,7 @@ use Rattle.settings.specs.declared.Changed.{Changed}
 use Rattle.settings.specs.Settings.{changed, modeVerdict, matrixVerdict, lightVerdict}
 use Rattle.store.specs.Uploads.{Whole}
 use Rattle.flat.specs.Words.{signedAt, inReach, firstOut, flatVerdict}
+use Rattle.sprite.specs.Words.{fitVerdict, spriteVerdict}
 use Rattle.decide.specs.Corners.{colorAt, firstOf, corner, normalMatrixOf, cornersOf}
 use Rattle.decide.specs.Verdicts.{invertibleOf, heldOf, finite4, reachedOf, eachOf, inputsOf, plainVertex, plainOf, transformedBy, transformedVerdict, texturedBy, checkedVerdict, texturedVerdict, triangleOf, recordsVerdict}
 use Rattle.judge.specs.Judge.{modelVerdict}
@@ -31,7 +32,7 @@ use Rattle.command.specs.declared.Draw.the-variants as draw
 use Rattle.command.specs.declared.Command.{Command}
 use Rattle.command.specs.declared.Command.the-variants.{Sets, Loads, Paints, Unknown}
 use Rattle.command.specs.Command.{commandOf, settingWords, drawWords}
-use Rattle.execute.specs.Commands.{Look, Painted, refused, unknown, wrongLength, setBy, settingsAfter, textureVerdict, countVerdict, clearPainted, flatPainted, transformedPainted, texturedPainted, modelPainted, drawnBy, paintedBy, toldAs, told}
+use Rattle.execute.specs.Commands.{Look, Painted, refused, unknown, wrongLength, setBy, settingsAfter, textureVerdict, countVerdict, clearPainted, spritePainted, flatPainted, transformedPainted, texturedPainted, modelPainted, drawnBy, paintedBy, toldAs, told}
 use Rattle.execute.proofs.Told.{told-as}
 use Rattle.laws.proofs.Bools.{either}
 
@@ -88,6 +89,13 @@ module _ (Q : Verdict → Type 0) (done : Q Done) (range : (i : ℕ) → Q (Refu
   unfolding flatVerdict
   flat-so p = out-so p (0 ∷ 1 ∷ 3 ∷ 4 ∷ 6 ∷ 7 ∷ [])
 
+  pub fit-so : (p : List ℕ) (w h : ℕ) → Q (fitVerdict p w h)
+  unfolding fitVerdict
+  fit-so p w h =
+      either Q (eqb (getD p 3 0) 0) _ _ (range 3)
+      (either Q (eqb (getD p 4 0) 0) _ _ (range 4)
+      (either Q (leb (getD p 1 0 + getD p 3 0) w) _ _ (either Q (leb (getD p 2 0 + getD p 4 0) h) _ _ (out-so p (5 ∷ 6 ∷ [])) (range 4)) (range 3)))
+
   module _ (long : Q wrongLength) (no-such : Q unknown) (held : Q (Refused NotHeld 0)) where
     -- ---- those that set
     by-so : (s : Settings) (x : Setting) (p : List ℕ) → Q (setBy s x p .verdict)
@@ -113,6 +121,11 @@ module _ (Q : Verdict → Type 0) (done : Q Done) (range : (i : ℕ) → Q (Refu
     count-so p = either Q (ltb (length p) 2) _ _ long (either Q (eqb (wordAt p 1) 0) _ _ (range 1) (either Q (eqb (length p) _) _ _ done long))
 
     -- ---- the draws
+    sprite-so : (p : List ℕ) (o : Option Whole) → Q (spriteVerdict p o)
+    unfolding spriteVerdict
+    sprite-so p none = held
+    sprite-so p (some u) = fit-so p (u .wide) (u .high)
+
     textured-so : (p : List ℕ) (normal b : Bool) (m : List Float) → Q (texturedVerdict p normal b m)
     unfolding texturedVerdict
     textured-so p normal b m = then-so (atMost p 1 2) _ (most-so p 1 2) (then-so (heldOf b) _ (either Q b _ _ done held) (checked-so p normal m))
@@ -129,8 +142,9 @@ module _ (Q : Verdict → Type 0) (done : Q Done) (range : (i : ℕ) → Q (Refu
     model-so p has m (some u) = then-so (atMost p 1 2) _ (most-so p 1 2) (records-so (wordAt p 1) has m (u .wide) (u .words))
 
     drawn-so : (look : Look) (s : Settings) (d : Draw) (p : List ℕ) → Q (drawnBy look s d p .verdict)
-    unfolding clearPainted flatPainted transformedPainted texturedPainted modelPainted
+    unfolding clearPainted spritePainted flatPainted transformedPainted texturedPainted modelPainted
     drawn-so look s draw.Clear p = most-so p 0 3
+    drawn-so look s draw.Sprite p = sprite-so p _
     drawn-so look s draw.Flat p = flat-so p
     drawn-so look s (draw.Transformed normal) p = transformed-so p normal (s .matrices)
     drawn-so look s (draw.Textured normal) p = textured-so p normal _ (s .matrices)

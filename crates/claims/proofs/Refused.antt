@@ -1,6 +1,6 @@
 -- A refused command changes status only, clear flags and model draws aside; those change the picture too, and nothing else. Over any way of keeping uploads. Assumes nothing.
 use Prim.Native.Nat.{ℕ, _≤_, _<_}
-use mathlib.Core.Path.{_≡_, refl, ap, _∙_}
+use mathlib.Core.Path.{_≡_, refl, sym, ap, _∙_}
 use mathlib.Core.Bool.{Bool, cond}
 use mathlib.Core.Option.{Option, none, some}
 use mathlib.Core.List.{List, [], _∷_, map}
@@ -23,6 +23,7 @@ use Rattle.store.specs.declared.Room.{Room}
 use Rattle.store.specs.declared.Room.the-variants.{Fits, NoSlot, NoWords}
 use Rattle.store.specs.Slots.{isFits}
 use Rattle.flat.specs.Words.{flatVerdict, triOf}
+use Rattle.sprite.specs.Words.{fitVerdict, spriteVerdict}
 use Rattle.decide.specs.Verdicts.{recordsVerdict, checkedVerdict, texturedVerdict, transformedVerdict}
 use Rattle.judge.specs.Judge.{modelVerdict}
 use Rattle.draw.specs.Draws.{transformedStrokes, heldStrokes, texturedStrokes, recordsStrokes, modelStrokes, hasIn}
@@ -35,10 +36,10 @@ use Rattle.command.specs.declared.Draw.the-variants as draw
 use Rattle.command.specs.declared.Command.{Command}
 use Rattle.command.specs.declared.Command.the-variants.{Sets, Loads, Paints, Unknown}
 use Rattle.command.specs.Command.{commandOf, settingWords, drawWords}
-use Rattle.execute.specs.Commands.{Look, Load, Told, tells, Painted, refused, wrongLength, setBy, settingsAfter, textureVerdict, countVerdict, loading, textureIn, modelIn, clearPaints, clearPainted, flatPainted, transformedPainted, texturedPainted, modelPainted, drawnBy, paintedBy, toldBy, toldAs, told}
+use Rattle.execute.specs.Commands.{Look, Load, Told, tells, Painted, refused, wrongLength, setBy, settingsAfter, textureVerdict, countVerdict, loading, textureIn, modelIn, clearPaints, clearPainted, spritePaints, spritePainted, flatPainted, transformedPainted, texturedPainted, modelPainted, drawnBy, paintedBy, toldBy, toldAs, told}
 use Rattle.execute.specs.Control.{Keep, Control, Seen, roomVerdict, verdictOf, keptOf, execute, executed}
 use Rattle.execute.specs.Kept.{Box, box, asBox}
-use Rattle.execute.proofs.Told.{told-as, command-of-04, command-of-1b, clear-opcode, model-opcode}
+use Rattle.execute.proofs.Told.{told-as, command-of-04, command-of-10, command-of-1b, clear-opcode, model-opcode}
 use Rattle.execute.proofs.Painted.{painted-whole, painted-short}
 use Rattle.laws.proofs.Bools.{either}
 use Rattle.claims.specs.Status.{toldIn, verdictIn, Left}
@@ -95,9 +96,15 @@ module _ (s : Settings) (p : List ℕ) where
       go Done h = when-refused (checkedVerdict p normal (s .matrices)) _ [] h
       go (Refused r i) h = refl
 
+  sprite-none : (o : Option Whole) → Refusal (spriteVerdict p o) → spritePaints p o ≡ []
+  unfolding spriteVerdict spritePaints
+  sprite-none none h = refl
+  sprite-none (some u) h = when-refused (fitVerdict p (u .wide) (u .high)) _ [] h
+
   drawn-quiet : (look : Look) (d : Draw) → (Paints d ≡ Paints draw.Clear → ⊥) → (Paints d ≡ Paints draw.Model → ⊥) → Refusal (drawnBy look s d p .verdict) → drawnBy look s d p .paints ≡ []
-  unfolding flatPainted transformedPainted texturedPainted transformedStrokes
+  unfolding spritePainted flatPainted transformedPainted texturedPainted transformedStrokes
   drawn-quiet look draw.Clear n m h = absurd (n refl)
+  drawn-quiet look draw.Sprite n m h = sprite-none _ h
   drawn-quiet look draw.Flat n m h = when-refused (flatVerdict p) (paints.flat (triOf p) ∷ []) [] h
   drawn-quiet look (draw.Transformed normal) n m h = ap (map paints.stroked) (when-refused (transformedVerdict p normal (s .matrices)) _ [] h)
   drawn-quiet look (draw.Textured normal) n m h = ap (map paints.stroked) (textured-none normal _ h)
@@ -119,6 +126,15 @@ module _ (s : Settings) (p : List ℕ) where
 
   told-quiet : (look : Look) (op : ℕ) → Quiet s (commandOf op) (told look s op p)
   told-quiet look op = rw (told-as look s op p refl) (as-quiet look (commandOf op))
+
+-- a sprite that is refused says that, and no more
+pub sprite-refused : (look : Look) (s : Settings) (p : List ℕ) {r : Reason} {i : ℕ} → told look s 0x10 p .verdict ≡ Refused r i → told look s 0x10 p ≡ tells (Refused r i) s []
+sprite-refused look s p {r} {i} e =
+    let a = paintedBy look s draw.Sprite p in
+    let is : told look s 0x10 p ≡ toldBy s a = told-as look s 0x10 p command-of-10 in
+    let v : a .verdict ≡ Refused r i = sym (ap (λ (t : Told). t .verdict) is) ∙ e in
+    let blank : a .paints ≡ [] = painted-quiet s p look draw.Sprite (λ q. let z : _≡_ {A = ℕ} 0 1 = cc in omega arith) (λ q. let z : _≡_ {A = ℕ} 0 1 = cc in omega arith) (refusal (a .verdict) v) in
+    is ∙ rw (v, blank)
 
 -- ---- every refused command, those without room too
 module _ {X : Type 0} (K : Keep X) (c : Control X) (r : Reason) (i : ℕ) (e : verdictIn K c ≡ Refused r i) where

@@ -18,7 +18,7 @@ use Rattle.store.specs.Uploads.{Whole, cards, live, room}
 use Rattle.decide.specs.Verdicts.{triangleOf}
 use Rattle.draw.specs.Draws.{texturedStrokes}
 use Rattle.execute.specs.Paints.{Paint, stroked}
-use Rattle.execute.specs.Commands.{Look, Load, Told, tells, told}
+use Rattle.execute.specs.Commands.{Look, Load, Told, tells, spritePaints, told}
 use Rattle.claims.specs.Plain.{Past, history}
 
 -- ---- the last accepted upload of a kind under a number
@@ -47,6 +47,14 @@ pub record Draws (found : Option Whole) (s : Settings) (p : List ℕ) (normal : 
   pub only : (i : ℕ) → t .verdict ≡ Refused NotHeld i → found ≡ none
   -- it gets the last accepted upload
   pub gets : t .paints ≡ map stroked (texturedStrokes s p normal found)
+
+-- ---- what a sprite says: 10, with the words p
+pub record Copies (found : Option Whole) (p : List ℕ) (t : Told) : Type 0 where
+  -- refused for want of one exactly if there is none
+  pub wanting : found ≡ none → t .verdict ≡ Refused NotHeld 0
+  pub only : (i : ℕ) → t .verdict ≡ Refused NotHeld i → found ≡ none
+  -- it gets the last accepted upload
+  pub gets : t .paints ≡ spritePaints p found
 
 -- ---- 1B: a model is drawn as so many 19s
 -- record i of a model's words, with the draw's mode: each record of 28 words becomes a 29-word triangle

@@ -4,9 +4,10 @@ use mathlib.Core.Path.{_≡_}
 use mathlib.Core.Option.{some}
 use mathlib.Core.List.{List, [], _∷_, _++_, map}
 use lib.IntN.{natAbs}
-use lib.ListN.{length}
+use lib.ListN.{length, drop, getD}
 use Rattle.store.specs.declared.Kind.{Kind}
 use Rattle.store.specs.declared.Room.the-variants.{Fits}
+use Rattle.verdict.specs.declared.Verdict.the-variants.{Done}
 use Rattle.flat.specs.Words.{signedAt}
 use Rattle.execute.specs.Commands.{Load, told}
 use Rattle.execute.specs.Control.{Control, Seen}
@@ -14,6 +15,7 @@ use Rattle.run.specs.Framing.{taken, wordOn}
 use Rattle.vpu.specs.Calls.{Small}
 use Rattle.claims.specs.Plain.{Past, asPast, plainStart}
 use Rattle.claims.specs.Runs.{Call, feeds, own}
+use Rattle.claims.specs.Original.{Vpu, copies, push}
 
 -- these words of a payload, read with a sign, are from -8192 to 8192
 abbrev pub Near : List ℕ → List ℕ → Type 0
@@ -39,6 +41,16 @@ AllFine size m (w ∷ ws) = Fine size m w × AllFine size (wordOn (asPast size) 
 abbrev pub InDomain : (Kind → ℕ) → List ℕ → Type 0
 InDomain size ws = Small ws × AllFine size plainStart ws
 
+-- no sprite is accepted: a command 10 that w, its last word, completes on the machine v is refused; and so for the words after it
+abbrev pub RefusedTen : Vpu → ℕ → Type 0
+RefusedTen v w =
+    let command = v .command ++ (w ∷ []) in
+    (left : ℕ) → v .expected ≡ some left → left ≤ 1 → getD command 0 0 ≡ 0x10 → told (v .uploads) (v .settings) 0x10 (drop 1 command) .verdict ≡ Done → ⊥
+
+unfoldable pub NoSprites : Vpu → List ℕ → Type 0
+NoSprites v [] = Unit {0}
+NoSprites v (w ∷ ws) = RefusedTen v w × NoSprites (push copies v w) ws
+
 -- accepted calls: each feeds the run's own state and buffers
 abbrev pub calls : List (List ℕ) → List Call
 calls wss = map (feeds own) wss
@@ -63,3 +75,7 @@ triangle x = 0x1200_000b ∷ 0 ∷ 0 ∷ 10 ∷ x ∷ 0 ∷ 10 ∷ 0 ∷ 4 ∷ 1
 
 abbrev pub stream : ℕ → List ℕ
 stream x = upload ++ (clear ++ triangle x)
+
+-- ---- the upload, and a sprite of w texels beside each other from it: `proofs/Sprites.antt`
+abbrev pub copied : ℕ → List ℕ
+copied w = upload ++ (0x1000_0007 ∷ 7 ∷ 0 ∷ 0 ∷ w ∷ 1 ∷ 5 ∷ 5 ∷ [])

@@ -19,7 +19,7 @@ use Rattle.store.specs.declared.Kind.the-variants.{Texture, Model}
 use Rattle.store.specs.Uploads.{Whole}
 use Rattle.flat.specs.Words.{triOf}
 use Rattle.execute.specs.Paints.{Picture, picture, flat, paintsOn}
-use Rattle.execute.specs.Commands.{Look, Load, Told, tells, told}
+use Rattle.execute.specs.Commands.{Look, Load, Told, tells, unknown, told}
 
 -- lines 42 to 59, `Vpu`. The FIFO holds at most the word that is pushed, so that status bits 0 and 5 are never seen; a texture is kept as its words
 pub record Vpu : Type 0 where
@@ -56,9 +56,20 @@ abbrev pub kept : Look → Option Load → Look
 kept held none = held
 kept held (some l) = inserted held (l .kind) (l .whole)
 
+-- what is done at opcode 10. The original refuses it, in line 222; with request A2 a sprite is copied, by the rules of section 11
+abbrev pub Tenth : Type 0
+Tenth = Look → Settings → List ℕ → Told
+
+abbrev pub refuses : Tenth
+refuses held s p = tells unknown s []
+
+abbrev pub copies : Tenth
+copies held s p = told held s 0x10 p
+
 -- lines 151 to 224, the arms. Line 206, `0x12 if p.len() == 11`: any triangle is drawn, here over whole numbers; outside the domain nothing is claimed
-unfoldable pub arm : Look → Settings → ℕ → List ℕ → Told
-arm held s opcode p = cond (eqb opcode 0x12 && eqb (length p) 11) (tells Done s (flat (triOf p) ∷ [])) (told held s opcode p)
+unfoldable pub arm : Tenth → Look → Settings → ℕ → List ℕ → Told
+arm ten held s opcode p =
+    cond (eqb opcode 0x10) (ten held s p) (cond (eqb opcode 0x12 && eqb (length p) 11) (tells Done s (flat (triOf p) ∷ [])) (told held s opcode p))
 
 -- what an arm does, `self.status |= 1 << 3` if it refuses; then lines 225 and 226
 abbrev pub ended : Vpu → Told → Vpu
@@ -71,10 +82,6 @@ ended v t = record {
   status = whenDone (t .verdict) (v .status) (bitOr (v .status) 8);
 }
 
--- lines 148 to 227, `execute`: the opcode is `self.command[0]`, and p is `self.command[1..]`
-unfoldable pub execute : Vpu → Vpu
-execute v = ended v (arm (v .uploads) (v .settings) (getD (v .command) 0 0) (drop 1 (v .command)))
-
 -- `self.status |= bit`
 abbrev pub marked : Vpu → ℕ → Vpu
 marked v bit = record { picture = v .picture; settings = v .settings; uploads = v .uploads; command = v .command; expected = v .expected; status = bitOr (v .status) bit }
@@ -83,27 +90,32 @@ marked v bit = record { picture = v .picture; settings = v .settings; uploads = 
 abbrev pub waiting : Vpu → List ℕ → ℕ → Vpu
 waiting v command left = record { picture = v .picture; settings = v .settings; uploads = v .uploads; command = command; expected = some left; status = v .status }
 
--- lines 130 to 135 and 137 to 142: it runs if none is left
-unfoldable pub await : Vpu → List ℕ → ℕ → Vpu
-await v command left = cond (eqb left 0) (execute (waiting v command left)) (waiting v command left)
-
 -- line 10, `MAX_COMMAND_WORDS`
 abbrev pub maxCommandWords : ℕ
 maxCommandWords = 3 + 1024 * 1024 / 2
 
--- lines 119 to 143, `pump` on one word: a header if nothing is expected, else a payload word
-abbrev pub pump : Vpu → ℕ → Option ℕ → Vpu
-pump v word none =
-    let opcode = word / 16777216 in
-    let count = word % 16777216 in
-    cond (eqb opcode 0) (marked v 4) (cond (ltb maxCommandWords count) (marked v 8) (await v (opcode ∷ []) count))
-pump v word (some n) = await v (v .command ++ (word ∷ [])) (n - 1)
+module _ (ten : Tenth) where
+  -- lines 148 to 227, `execute`: the opcode is `self.command[0]`, and p is `self.command[1..]`
+  unfoldable pub execute : Vpu → Vpu
+  execute v = ended v (arm ten (v .uploads) (v .settings) (getD (v .command) 0 0) (drop 1 (v .command)))
 
--- lines 106 to 114, `push`
-unfoldable pub push : Vpu → ℕ → Vpu
-push v word = pump v word (v .expected)
+  -- lines 130 to 135 and 137 to 142: it runs if none is left
+  unfoldable pub await : Vpu → List ℕ → ℕ → Vpu
+  await v command left = cond (eqb left 0) (execute (waiting v command left)) (waiting v command left)
 
--- words pushed one after the other
-unfoldable pub pushes : Vpu → List ℕ → Vpu
-pushes v [] = v
-pushes v (w ∷ ws) = pushes (push v w) ws
+  -- lines 119 to 143, `pump` on one word: a header if nothing is expected, else a payload word
+  abbrev pub pump : Vpu → ℕ → Option ℕ → Vpu
+  pump v word none =
+      let opcode = word / 16777216 in
+      let count = word % 16777216 in
+      cond (eqb opcode 0) (marked v 4) (cond (ltb maxCommandWords count) (marked v 8) (await v (opcode ∷ []) count))
+  pump v word (some n) = await v (v .command ++ (word ∷ [])) (n - 1)
+
+  -- lines 106 to 114, `push`
+  unfoldable pub push : Vpu → ℕ → Vpu
+  push v word = pump v word (v .expected)
+
+  -- words pushed one after the other
+  unfoldable pub pushes : Vpu → List ℕ → Vpu
+  pushes v [] = v
+  pushes v (w ∷ ws) = pushes (push v w) ws

@@ -10,13 +10,14 @@ use Rattle.command.specs.declared.Draw.the-variants as draw
 use Rattle.command.specs.declared.Command.{Command}
 use Rattle.command.specs.declared.Command.the-variants.{Sets, Loads, Paints, Unknown}
 
--- rule 3.1: what an opcode is. No other definition of the machine tells commands apart by it. 04 clears, 01, 02 and 15 set mode, matrix and light, 12 is flat,
+-- rule 3.1: what an opcode is. No other definition of the machine tells commands apart by it. 04 clears, 01, 02 and 15 set mode, matrix and light, 10 is a sprite, 12 is flat,
 -- 14 and 16 are transformed, 16 with normals; 18 and 19 textured, 19 with normals; 17 and 1A load a texture and a model, and 1B draws one; any other is unknown
 unfoldable pub commandOf : ℕ → Command
 commandOf op =
     cond (eqb op 0x01) (Sets setting.Mode)
     (cond (eqb op 0x02) (Sets setting.Matrix)
     (cond (eqb op 0x04) (Paints draw.Clear)
+    (cond (eqb op 0x10) (Paints draw.Sprite)
     (cond (eqb op 0x12) (Paints draw.Flat)
     (cond (eqb op 0x14) (Paints (draw.Transformed false))
     (cond (eqb op 0x15) (Sets setting.Light)
@@ -26,7 +27,7 @@ commandOf op =
     (cond (eqb op 0x19) (Paints (draw.Textured true))
     (cond (eqb op 0x1a) (Loads Model)
     (cond (eqb op 0x1b) (Paints draw.Model)
-    Unknown)))))))))))
+    Unknown))))))))))))
 
 -- rule 3.2: how many payload words a command that sets has, and one that paints
 abbrev pub settingWords : Setting → ℕ
@@ -36,6 +37,7 @@ settingWords setting.Light = 17
 
 abbrev pub drawWords : Draw → ℕ
 drawWords draw.Clear = 3
+drawWords draw.Sprite = 7
 drawWords draw.Flat = 11
 drawWords (draw.Transformed normal) = cond normal 21 12
 drawWords (draw.Textured normal) = cond normal 29 20

@@ -13,6 +13,7 @@ pub enum Setting {
 // What a command paints. `has_normal`: each vertex comes with one.
 pub enum Draw {
     Clear,
+    Sprite,
     Flat,
     Transformed { has_normal: bool },
     Textured { has_normal: bool },
@@ -33,6 +34,7 @@ pub fn command_of(opcode: u32) -> Command
         0x01 => Command::Sets(Setting::Mode),
         0x02 => Command::Sets(Setting::Matrix),
         0x04 => Command::Paints(Draw::Clear),
+        0x10 => Command::Paints(Draw::Sprite),
         0x12 => Command::Paints(Draw::Flat),
         0x14 => Command::Paints(Draw::Transformed { has_normal: false }),
         0x15 => Command::Sets(Setting::Light),
@@ -62,6 +64,7 @@ pub fn draw_words(draw: Draw) -> usize
 {
     match draw {
         Draw::Clear => 3,
+        Draw::Sprite => 7,
         Draw::Flat => 11,
         Draw::Transformed { has_normal } => {
             if has_normal {

@@ -32,7 +32,8 @@ use Rattle.decide.specs.Checked.{blank}
 use Rattle.lit.specs.Lit.{transformedLit, texturedLit}
 use Rattle.draw.specs.Draws.{flatColor, shadedBrush, transformedCorners, transformedStrokes, texturedCorners, texturedBrush, texturedStroke, heldStrokes, texturedStrokes, recordsStrokes, modelStrokes, hasIn}
 use Rattle.judge.specs.Judge.{isAt, heldIn, namedVerdict, slotBy}
-use Rattle.judge.proofs.Laws.{look-some, look-held, mode-done, found-by, next-record, records-next, records-none}
+use Rattle.store.proofs.Places.{look-some}
+use Rattle.judge.proofs.Laws.{look-held, mode-done, found-by, next-record, records-next, records-none}
 
 -- ---- 14 and 16
 module _ (s : Settings) (p : List ℕ) (normal : Bool) (a : Sheet) where

@@ -2,6 +2,7 @@
 use Prim.Native.Nat.{ℕ}
 use mathlib.Core.Path.{_≡_, refl}
 use mathlib.Core.Bool.{Bool, true, false, cond}
+use mathlib.Core.Option.{Option, none, some}
 use mathlib.Core.List.{List, [], _∷_, map}
 use lib.IntN.{ℤ}
 use lib.Ieee.{Float}
@@ -9,14 +10,18 @@ use lib.ListN.{length}
 use borrow.Author.Tests.{eq-eqb, ne-eqb}
 use Rattle.settings.specs.declared.Settings.{Settings}
 use Rattle.flat.specs.Words.{flatVerdict, flatDepths, flatPlane}
+use Rattle.sprite.specs.Sprite.{spritePlane}
+use Rattle.sprite.specs.Words.{fitVerdict, spriteOf, spriteDrawn}
+use Rattle.store.specs.Uploads.{Whole}
 use Rattle.stroke.specs.Strokes.{sheet, Stroke, strokeOn, strokesOn}
 use Rattle.decide.specs.Corners.{wordsOf}
+use Rattle.payload.specs.Words.{whenDone}
 use Rattle.verdict.specs.declared.Verdict.{Verdict}
 use Rattle.verdict.specs.declared.Verdict.the-variants.{Done, Refused}
 use Rattle.command.specs.declared.Draw.{Draw}
-use Rattle.execute.specs.Paints.{Picture, picture, seenOf, withSeen, stroked, paintOn, paintsOn}
+use Rattle.execute.specs.Paints.{Picture, picture, seenOf, withSeen, sprite, stroked, paintOn, paintsOn}
 use Rattle.command.specs.Command.{drawWords}
-use Rattle.execute.specs.Commands.{Look, wrongLength, refused, flatPainted, drawnBy, paintedBy}
+use Rattle.execute.specs.Commands.{Look, wrongLength, refused, spritePaints, flatPainted, drawnBy, paintedBy}
 
 module _ (look : Look) (s : Settings) (d : Draw) (p : List ℕ) where
   pub painted-whole : length p ≡ drawWords d → paintedBy look s d p ≡ drawnBy look s d p
@@ -56,6 +61,18 @@ strokes-on (k ∷ ks) p = strokes-on ks (withSeen p (strokeOn k (seenOf p)))
 pub strokes-painted : (ks : List Stroke) (P P′ : List ℕ) (D : List ℤ) (F F′ : List Float) → sheet P′ F′ ≡ strokesOn ks (sheet P F)
     → picture P′ D F′ ≡ paintsOn (map stroked ks) (picture P D F)
 strokes-painted ks P P′ D F F′ e = rw (strokes-on ks (picture P D F), ← e)
+
+-- ---- a sprite, which leaves both depths
+pub sprite-painted : (p : List ℕ) (found : Option Whole) (P P′ : List ℕ) (D : List ℤ) (F : List Float) → P′ ≡ spriteDrawn p found P
+    → picture P′ D F ≡ paintsOn (spritePaints p found) (picture P D F)
+unfolding spriteDrawn spritePaints paintsOn paintOn
+sprite-painted p none P P′ D F e = rw e
+sprite-painted p (some u) P P′ D F e = rw e (go (fitVerdict p (u .wide) (u .high)))
+  where
+    go : (v : Verdict)
+        → picture (whenDone v (spritePlane (spriteOf p (u .wide)) (u .words) P) P) D F ≡ paintsOn (whenDone v (sprite (spriteOf p (u .wide)) (u .words) ∷ []) []) (picture P D F)
+    go Done = refl
+    go (Refused r i) = refl
 
 -- ---- a flat triangle
 pub flat-painted : (p : List ℕ) (P P′ : List ℕ) (D D′ : List ℤ) (F : List Float) → D′ ≡ flatDepths p D → P′ ≡ flatPlane p D P

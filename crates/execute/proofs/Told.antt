@@ -25,6 +25,10 @@ pub command-of-04 : commandOf 0x04 ≡ Paints draw.Clear
 unfolding commandOf
 command-of-04 = refl
 
+pub command-of-10 : commandOf 0x10 ≡ Paints draw.Sprite
+unfolding commandOf
+command-of-10 = refl
+
 pub command-of-12 : commandOf 0x12 ≡ Paints draw.Flat
 unfolding commandOf
 command-of-12 = refl
@@ -54,6 +58,7 @@ abbrev Named : ℕ → Command → Type 0
 Named op (Sets x) = Unit {0}
 Named op (Loads k) = Unit {0}
 Named op (Paints draw.Clear) = op ≡ 0x04
+Named op (Paints draw.Sprite) = Unit {0}
 Named op (Paints draw.Flat) = Unit {0}
 Named op (Paints (draw.Transformed normal)) = Unit {0}
 Named op (Paints (draw.Textured normal)) = Unit {0}
@@ -73,10 +78,11 @@ named op =
     test op 0x01 _ _ tt
     (test op 0x02 _ _ tt
     (test op 0x04 _ _ refl
+    (test op 0x10 _ _ tt
     (test op 0x12 _ _ tt
     (test op 0x14 _ _ tt
     (test op 0x15 _ _ tt
-    (test op 0x16 _ _ tt (test op 0x17 _ _ tt (test op 0x18 _ _ tt (test op 0x19 _ _ tt (test op 0x1a _ _ tt (test op 0x1b _ Unknown refl tt)))))))))))
+    (test op 0x16 _ _ tt (test op 0x17 _ _ tt (test op 0x18 _ _ tt (test op 0x19 _ _ tt (test op 0x1a _ _ tt (test op 0x1b _ Unknown refl tt))))))))))))
 
 pub clear-opcode : (op : ℕ) → commandOf op ≡ Paints draw.Clear → op ≡ 0x04
 clear-opcode op e = rw e at (named op)

@@ -18,6 +18,7 @@ use Rattle.verdict.specs.declared.Verdict.{Verdict}
 use Rattle.verdict.specs.declared.Verdict.the-variants.{Done, Refused}
 use Rattle.payload.specs.Words.{whenDone, wordAt, atMost}
 use Rattle.flat.specs.Words.{flatVerdict, triOf}
+use Rattle.sprite.specs.Words.{fitVerdict, spriteOf, spriteVerdict}
 use Rattle.stroke.specs.Strokes.{Stroke}
 use Rattle.decide.specs.Verdicts.{transformedVerdict, texturedVerdict}
 use Rattle.judge.specs.Judge.{modelVerdict}
@@ -29,7 +30,7 @@ use Rattle.command.specs.declared.Draw.the-variants as draw
 use Rattle.command.specs.declared.Command.{Command}
 use Rattle.command.specs.declared.Command.the-variants.{Sets, Loads, Paints, Unknown}
 use Rattle.command.specs.Command.{commandOf, settingWords, drawWords}
-use Rattle.execute.specs.Paints.{Paint, fill, far, flat, stroked}
+use Rattle.execute.specs.Paints.{Paint, fill, far, sprite, flat, stroked}
 
 -- what a draw may ask: the upload of a kind that is held under a number, if one is
 abbrev pub Look : Type 0
@@ -128,6 +129,14 @@ clearPaints p = when (eqb (wordAt p 0 % 2) 1) (fill (rgbaOf (wordAt p 1))) ++ wh
 unfoldable pub clearPainted : List ℕ → Painted
 clearPainted p = painted (atMost p 0 3) (clearPaints p)
 
+-- rule 3.10: 10, with the texture that is held under word 0, if one is
+unfoldable pub spritePaints : List ℕ → Option Whole → List Paint
+spritePaints p none = []
+spritePaints p (some u) = whenDone (fitVerdict p (u .wide) (u .high)) (sprite (spriteOf p (u .wide)) (u .words) ∷ []) []
+
+unfoldable pub spritePainted : Look → List ℕ → Painted
+spritePainted look p = painted (spriteVerdict p (look Texture (wordAt p 0))) (spritePaints p (look Texture (wordAt p 0)))
+
 -- rule 3.10: 12
 unfoldable pub flatPainted : List ℕ → Painted
 flatPainted p = painted (flatVerdict p) (whenDone (flatVerdict p) (flat (triOf p) ∷ []) [])
@@ -150,6 +159,7 @@ modelPainted look s p =
 
 abbrev pub drawnBy : Look → Settings → Draw → List ℕ → Painted
 drawnBy look s draw.Clear p = clearPainted p
+drawnBy look s draw.Sprite p = spritePainted look p
 drawnBy look s draw.Flat p = flatPainted p
 drawnBy look s (draw.Transformed normal) p = transformedPainted s normal p
 drawnBy look s (draw.Textured normal) p = texturedPainted look s normal p

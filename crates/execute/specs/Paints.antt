@@ -10,6 +10,8 @@ use Rattle.screen.specs.Depths.{farInts, farFloats}
 use Rattle.screen.specs.declared.plane.Rgba.{Rgba}
 use Rattle.flat.specs.declared.tri.Tri.{Tri}
 use Rattle.flat.specs.Tri.{triDepths, triPlane}
+use Rattle.sprite.specs.declared.words.Sprite.{Sprite}
+use Rattle.sprite.specs.Sprite.{spritePlane}
 use Rattle.stroke.specs.Strokes.{Sheet, sheet, Stroke, strokeOn}
 
 -- the plane, the integer depths and the float depths
@@ -26,6 +28,8 @@ pub data Paint : Type 0 where
   fill : Rgba → Paint
   -- rule 3.6, flag 2
   far : Paint
+  -- rule 11.6: a sprite that is not refused, and its texture's words
+  sprite : Sprite → List ℕ → Paint
   -- a flat triangle that is not refused
   flat : Tri → Paint
   -- a float triangle that is not refused
@@ -41,6 +45,7 @@ withSeen p s = picture (s .plane) (p .depth) (s .depths)
 unfoldable pub paintOn : Paint → Picture → Picture
 paintOn (fill c) p = picture (mapAt (paint c) (p .plane)) (p .depth) (p .depthF)
 paintOn far p = picture (p .plane) (farInts (length (p .depth))) (farFloats (length (p .depthF)))
+paintOn (sprite s texels) p = picture (spritePlane s texels (p .plane)) (p .depth) (p .depthF)
 paintOn (flat t) p = picture (triPlane t (p .depth) (p .plane)) (triDepths t (p .depth)) (p .depthF)
 paintOn (stroked k) p = withSeen p (strokeOn k (seenOf p))
 

@@ -1,4 +1,4 @@
-// The commands that paint: 04, 12, 14, 16, 18, 19 and 1B.
+// The commands that paint: 04, 10, 12, 14, 16, 18, 19 and 1B.
 use crate::clear::clear;
 use command::Draw;
 use command::draw_words;
@@ -43,6 +43,7 @@ pub fn paint(
     }
     match draw {
         Draw::Clear => clear(plane, depth, depth_f32, p),
+        Draw::Sprite => sprite::draw_sprite(plane, p, slots, textures),
         Draw::Flat => flat::draw_flat_triangle(plane, depth, p),
         Draw::Transformed { has_normal } => {
             draw::draw_transformed_triangle(plane, depth_f32, p, has_normal, s)

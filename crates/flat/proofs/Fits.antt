@@ -1,12 +1,14 @@
 -- What a triangle's bounds give: its numbers fit, its edges may be taken at a pixel and along a row, and how large those are. Assumes nothing.
 use mathlib.Core.Path.{_≡_, ap, _∙_}
 use mathlib.Core.Bool.{true}
-use Prim.Native.Nat.{ℕ, _<_}
+use Prim.Native.Nat.{ℕ, _<_, _^_}
 use native.Mathlib.Omega.{arith}
 use lib.IntN.{ℤ, pos, _+ℤ_}
+use lib.Signed.{mag}
 use mir.Syntax.{w64}
-use mir.Val.{SFits, toZ, ofZ}
+use mir.Val.{SFits, toZ, ofZ, hbits}
 use mir.ValLaws.{toZ-ofZ}
+use borrow.Author.Needs.{sfits-of}
 use Rattle.laws.specs.Within.{Within}
 use Rattle.laws.proofs.Bound as B
 use Rattle.laws.proofs.Ring.{ring, Expr, var, add, sub, mul}
@@ -136,3 +138,7 @@ weighed {t} p x y hx hy h =
 -- a number that is known to be another is read back as that
 pub read-as : {z z′ : ℤ} → SFits w64 z′ → z ≡ z′ → toZ w64 (ofZ w64 z) ≡ z′
 read-as {z} {z′} f e = ap (λ (n : ℤ). toZ w64 (ofZ w64 n)) e ∙ toZ-ofZ w64 z′ f
+
+-- the same of an answer, which is known to fit
+pub read-back : (z v : ℤ) → mag z < 2 ^ hbits w64 → z ≡ v → toZ w64 (ofZ w64 z) ≡ v
+read-back z v f e = toZ-ofZ w64 z (sfits-of f) ∙ e

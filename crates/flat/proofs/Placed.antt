@@ -18,7 +18,7 @@ use Rattle.flat.specs.Tri.{Placed}
 use Rattle.flat.specs.Words.{signedAt, inReach, firstOut, flatVerdict, triOf}
 
 -- if a list is not refused, its first word is in reach and the rest is not refused
-first-in : (p : List ℕ) (k : ℕ) (ks : List ℕ) → firstOut p (k ∷ ks) ≡ Done → Within reach (signedAt p k) × (firstOut p ks ≡ Done)
+pub first-in : (p : List ℕ) (k : ℕ) (ks : List ℕ) → firstOut p (k ∷ ks) ≡ Done → Within reach (signedAt p k) × (firstOut p ks ≡ Done)
 unfolding inReach
 first-in p k ks e = go (inReach (signedAt p k)) refl e
   where

@@ -27,7 +27,7 @@ pub struct Tri {
 }
 
 // A word, read as a signed number.
-fn signed(word: u32) -> i64
+pub fn signed(word: u32) -> i64
     ensures { λ r. ⌜ r ≡ toZ w32 word ⌝ }
 {
     if word < 2147483648 {
@@ -36,7 +36,7 @@ fn signed(word: u32) -> i64
     (word as i64) - 4294967296
 }
 
-fn in_reach(word: u32) -> bool
+pub fn in_reach(word: u32) -> bool
     ensures { λ r. ⌜ r ≡ inReach (toZ w32 word) ⌝ }
 {
     let a = signed(word);

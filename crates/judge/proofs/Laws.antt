@@ -2,25 +2,24 @@
 use Prim.Native.Nat.{ℕ, suc, _+_, _-_, _*_, _≤_, _<_}
 use mathlib.Core.Path.{_≡_, refl, sym, _∙_}
 use mathlib.Core.Bool.{Bool, true, _&&_}
-use mathlib.Core.Option.{none, some}
+use mathlib.Core.Option.{none}
 use mathlib.Core.List.{List, [], append-nil}
 use native.Mathlib.Nat.{add-zero}
 use native.Mathlib.Omega.{arith}
 use lib.Dec.{eqb, leb, ltb}
 use borrow.Author.Tests.{leb-true}
-use lib.ListN.{length, take, drop, set, replicate, length-drop}
+use lib.ListN.{take, drop, set, replicate}
 use lib.Ieee.{Float}
-use lib.Seq.{paste, drop-drop, getD-drop, length-take-le}
+use lib.Seq.{paste, drop-drop, getD-drop}
 use Rattle.vector.specs.declared.normal.Inverse.{Inverse}
 use Rattle.store.specs.Uploads.{isSome}
-use Rattle.store.specs.Slots.{areaOf, sidesOk, noSlot, uploadAt, slotFor, looked, lookIn, slotsOk}
+use Rattle.store.specs.Slots.{sidesOk, noSlot, uploadAt, slotFor, looked, lookIn}
 use Rattle.store.specs.declared.Slot.{Slot}
 use Rattle.store.specs.declared.Kind.{Kind}
 use Rattle.store.specs.declared.Kind.the-variants.{Model}
 use Rattle.store.specs.declared.Found.{Found}
 use Rattle.store.specs.declared.Found.the-variants.{At, Nothing}
 use Rattle.laws.proofs.Bools.{and-left, and-right}
-use Rattle.store.proofs.Moved.{total-fits, spot}
 use Rattle.verdict.specs.declared.Reason.{Reason}
 use Rattle.verdict.specs.declared.Reason.the-variants.{NotHeld}
 use Rattle.verdict.specs.declared.Verdict.{Verdict}
@@ -32,35 +31,13 @@ use Rattle.decide.specs.Verdicts.{heldOf, texturedBy, checkedVerdict, texturedV
 use Rattle.decide.proofs.Decided.{lit-is}
 use Rattle.judge.specs.Judge.{isAt, heldIn, slotOr, namedVerdict, slotBy, modelVerdict}
 
--- ---- what a store has under a number, by the slot that is found
-module _ (k : Kind) (slots : List Slot) (store : List ℕ) (n : ℕ) where
-  pub look-some : (slot : Slot) → slotFor n slots ≡ At slot → lookIn k slots store n ≡ some (uploadAt k slot store)
-  look-some slot e = rw e
-
-  -- the slots decide whether one is held
-  pub look-held : isSome (lookIn k slots store n) ≡ heldIn slots n
-  look-held = go (slotFor n slots)
-    where
-      go : (f : Found) → isSome (looked k store f) ≡ isAt f
-      go (At slot) = refl
-      go Nothing = refl
-
-  -- its part of the words
-  pub part-is : (start size area : ℕ) → size ≡ area → take (start + size - start) (drop start store) ≡ take area (drop start store)
-  part-is start size area e =
-      let n : start + size - start ≡ area = omega arith in
-      rw n
-
-  pub part-long : (start size area : ℕ) → size ≡ area → start + area ≤ length store → length (take (start + size - start) (drop start store)) ≡ area
-  part-long start size area e h = rw (part-is start size area e) (length-take-le area (drop start store) (omega (arith, length-drop start store)))
-
-  -- where they are
-  module _ (long : length slots ≡ 64) (ok : slotsOk k (length store) 0 slots ≡ true) (slot : Slot) (found : slotFor n slots ≡ At slot) where
-    pub sides-at : sidesOk k (slot .width) (slot .height) ≡ true
-    sides-at = spot k slots store n long ok slot found .sides
-
-    pub inside-at : slot .start + areaOf k (slot .width) (slot .height) ≤ length store
-    inside-at = omega (arith, spot k slots store n long ok slot found .inside, total-fits k slots store n long ok)
+-- ---- the slots decide whether a number is held
+pub look-held : (k : Kind) (slots : List Slot) (store : List ℕ) (n : ℕ) → isSome (lookIn k slots store n) ≡ heldIn slots n
+look-held k slots store n = go (slotFor n slots)
+  where
+    go : (f : Found) → isSome (looked k store f) ≡ isAt f
+    go (At slot) = refl
+    go Nothing = refl
 
 pub model-few : (count height : ℕ) → sidesOk Model count height ≡ true → count ≤ 18724
 model-few count height h =

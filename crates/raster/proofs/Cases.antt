@@ -10,7 +10,8 @@ use Rattle.vector.specs.Three.{_·_}
 use Rattle.face.specs.declared.Corners.{Corners}
 use Rattle.face.specs.Pixel.{mixOf}
 use Rattle.raster.specs.declared.ink.Sampler.{Sampler}
-use Rattle.raster.specs.Ink.{placeOf, halfOf, nibblesOf, texelOf}
+use Rattle.texel.specs.Texel.{halfOf, nibblesOf, texelAt}
+use Rattle.raster.specs.Ink.{placeOf, texelOf}
 
 module _ (u v b : Corners) where
   -- a 1 × 1 texture, whatever u and v are at the corners
@@ -24,5 +25,5 @@ module _ (u v b : Corners) where
 
   -- rule 9.11
   pub case-11 : texelOf (0xf0a5_1234 ∷ []) one b ≡ record { r = 255; g = 0; b = 170; a = 85 }
-  unfolding texelOf halfOf nibblesOf
+  unfolding texelOf texelAt halfOf nibblesOf
   case-11 = rw place-one

@@ -9,7 +9,8 @@ use lib.Ieee.{ofInt, ofBits, mul, add, div, lt}
 use lib.Ieee.Fits.{and-l, and-r}
 use Rattle.ieee.specs.Units.{wholes}
 use Rattle.ieee.specs.Number.{unitOf}
-use Rattle.raster.specs.Ink.{byteOf, rgbaOf, plainOf, nibblesOf}
+use Rattle.texel.specs.Texel.{nibblesOf}
+use Rattle.raster.specs.Ink.{byteOf, rgbaOf, plainOf}
 
 kept : ℕ → Bool
 kept zero = true

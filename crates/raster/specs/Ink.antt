@@ -1,9 +1,7 @@
 -- What a float triangle leaves at a pixel that it shows at: a colour, or nothing. The original, from the store of the depth to `write_pixel`. Each operation rounds once, in the source's order. Definitions only.
 use mathlib.Core.Bool.{Bool, cond}
 use mathlib.Core.List.{List}
-use Prim.Native.Nat.{ℕ, _+_, _*_, _/_, _%_, _≤_}
-use lib.Dec.{eqb}
-use lib.ListN.{getD}
+use Prim.Native.Nat.{ℕ, _+_, _*_, _/_, _≤_}
 use lib.Ieee.{Float}
 use Rattle.ieee.specs.Range.{clampOf, tinyOf}
 use Rattle.ieee.specs.Number.{unitOf}
@@ -11,6 +9,7 @@ use Rattle.ieee.specs.Casts as casts
 use Rattle.vector.specs.Three.{_⊕_, _·_, _⊘_, at}
 use Rattle.clip.specs.declared.vertex.ClipVertex.{ClipVertex}
 use Rattle.screen.specs.declared.plane.Rgba.{Rgba}
+use Rattle.texel.specs.Texel.{texelAt}
 use Rattle.face.specs.declared.Corners.{Corners}
 use Rattle.raster.specs.declared.ink.Color.{Color}
 use Rattle.raster.specs.declared.ink.Colors.{Colors}
@@ -67,17 +66,9 @@ pub record Texture (width height n : ℕ) : Type 0 where
 unfoldable pub placeOf : Sampler → Corners → ℕ
 placeOf s b = casts.texelOf (mixOf b (s .v)) (s .height) * s .width + casts.texelOf (mixOf b (s .u)) (s .width)
 
--- rule 5.13: the sixteen bits of texel n, out of the words as received, the high half first
-unfoldable pub halfOf : List ℕ → ℕ → ℕ
-halfOf texels n = cond (eqb (n % 2) 0) (getD texels (n / 2) 0 / 65536) (getD texels (n / 2) 0 % 65536)
-
--- rule 5.13: four digits of 4 bits, each times 17
-unfoldable pub nibblesOf : ℕ → Rgba
-nibblesOf t = record { r = t / 4096 % 16 * 17; g = t / 256 % 16 * 17; b = t / 16 % 16 * 17; a = t % 16 * 17 }
-
 -- `data[ti + ch]`
 unfoldable pub texelOf : List ℕ → Sampler → Corners → Rgba
-texelOf texels s b = nibblesOf (halfOf texels (placeOf s b))
+texelOf texels s b = texelAt texels (placeOf s b)
 
 -- `t`: `data[ti + ch] as f32 / 255.0`
 unfoldable pub plainOf : Rgba → Color

@@ -6,7 +6,7 @@ use screen::plane::Rgba;
 ghost use mathlib.Core.Path.{_≡_};
 ghost use Prim.Native.Nat.{_*_, _<_};
 ghost use lib.ListN.{length};
-ghost use Rattle.raster.specs.Ink.{byteOf, rgbaOf, dividedOf, blendOf, Texture, placeOf, halfOf, nibblesOf, texelOf, plainOf, tintedOf, mixedOf, tonedOf, Stored, shadeOf, colorsOf, samplerOf};
+ghost use Rattle.raster.specs.Ink.{byteOf, rgbaOf, dividedOf, blendOf, Texture, placeOf, texelOf, plainOf, tintedOf, mixedOf, tonedOf, Stored, shadeOf, colorsOf, samplerOf};
 
 // An interpolated colour, or a flat one.
 pub struct Color {
@@ -109,37 +109,11 @@ fn place(s: Sampler, b: Corners, n: usize) -> usize
     ieee::cast::texel(v, s.height) * (s.width as usize) + ieee::cast::texel(u, s.width)
 }
 
-// The sixteen bits of texel n.
-fn half(texels: &[u32], width: u32, height: u32, n: usize) -> u32
-    requires { ⌜ Texture width height (length (now texels)) ⌝ }
-    requires { ⌜ n < width * height ⌝ }
-    ensures { λ r. ⌜ (r ≡ halfOf (now (texels .entry)) n) × (r < 65536) ⌝ }
-{
-    let k = n / 2;
-    if n % 2 == 0 {
-        return texels[k] / 65536;
-    }
-    texels[k] % 65536
-}
-
-fn nibbles(texel: u32) -> Rgba
-    requires { ⌜ texel < 65536 ⌝ }
-    ensures { λ r. ⌜ r ≡ nibblesOf texel ⌝ }
-{
-    Rgba {
-        r: (texel / 4096 % 16 * 17) as u8,
-        g: (texel / 256 % 16 * 17) as u8,
-        b: (texel / 16 % 16 * 17) as u8,
-        a: (texel % 16 * 17) as u8,
-    }
-}
-
 fn texel(texels: &[u32], s: Sampler, b: Corners) -> Rgba
     requires { ⌜ Texture (s .width) (s .height) (length (now texels)) ⌝ }
     ensures { λ r. ⌜ r ≡ texelOf (now (texels .entry)) s b ⌝ }
 {
-    let n = place(s, b, texels.len());
-    nibbles(half(texels, s.width, s.height, n))
+    texel::texel_at(texels, place(s, b, texels.len()))
 }
 
 fn plain(t: Rgba) -> Color

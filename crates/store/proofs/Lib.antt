@@ -4,5 +4,6 @@ pub mod Walk
 pub mod Mapped
 pub mod Held
 pub mod Moved
+pub mod Places
 pub mod Kept
 pub mod Cases

@@ -7,7 +7,7 @@ use vpu_oracle::random::Random;
 use vpu_oracle::streams::{Command, Triangle};
 
 /// A rectangle of the screen as two triangles with the whole texture.
-fn rectangle([left, top, right, bottom]: [f32; 4], z: f32, rgba: [u32; 2]) -> [Triangle; 2] {
+pub fn rectangle([left, top, right, bottom]: [f32; 4], z: f32, rgba: [u32; 2]) -> [Triangle; 2] {
     let corners = [
         corner([left, top], z, [0.0, 0.0], rgba[0]),
         corner([right, top], z, [1.0, 0.0], rgba[0]),

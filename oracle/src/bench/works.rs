@@ -1,6 +1,7 @@
 //! What is timed: words that both sides are fed.
 
 use crate::overlay::overlay;
+use crate::sprites;
 use vpu_oracle::floats;
 use vpu_oracle::maker::{Camera, Maker};
 use vpu_oracle::random::Random;
@@ -20,6 +21,9 @@ pub struct Work {
     pub per_call: usize,
     /// The status at the end.
     pub status: u32,
+    /// Whether it has sprites, and whether its draws change no pixel though none is refused.
+    pub sprites: bool,
+    pub unseen: bool,
 }
 
 pub fn words_of(commands: &[Command]) -> Vec<u32> {
@@ -29,17 +33,27 @@ pub fn words_of(commands: &[Command]) -> Vec<u32> {
 }
 
 impl Work {
-    fn new(name: &str, unit: &'static str, count: usize, words: Vec<u32>) -> Self {
-        let (name, before, each) = (name.to_string(), Vec::new(), Vec::new());
-        Self { name, unit, count, before, each, words, per_call: usize::MAX, status: 0 }
+    pub fn new(name: &str, unit: &'static str, count: usize, words: Vec<u32>) -> Self {
+        Self {
+            name: name.to_string(),
+            unit,
+            count,
+            before: Vec::new(),
+            each: Vec::new(),
+            words,
+            per_call: usize::MAX,
+            status: 0,
+            sprites: false,
+            unseen: false,
+        }
     }
 
-    fn after(self, before: Vec<u32>) -> Self {
+    pub fn after(self, before: Vec<u32>) -> Self {
         Self { before, ..self }
     }
 
     /// With empty depths before each round, so that each draws as much.
-    fn on_empty_depths(self) -> Self {
+    pub fn on_empty_depths(self) -> Self {
         Self { each: words_of(&[Command::clear(2, 0, 0)]), ..self }
     }
 
@@ -297,6 +311,7 @@ fn frames(scenes: &str) -> Result<Vec<Work>, String> {
 /// The rows of the first table.
 pub fn all(scenes: &str) -> Result<Vec<Work>, String> {
     let mut works = vec![clear("04, colour and depths", 3), clear("04, depths alone", 2)];
+    works.push(sprites::for_a_sprite());
     works.extend(BOXES.map(|frame| Work::of_draws(&format!("12, {}", size(frame)), &flat(frame))));
     works.extend(float_draws());
     works.extend(crossing_draws());

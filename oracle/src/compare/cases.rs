@@ -1,11 +1,12 @@
-//! What is compared: a stream of each profile in turn, some of them damaged, cut in any way, with stores that are often
-//! too small.
+//! What is compared: a stream of each profile in turn, some with sprites put in, some damaged, cut in any way, with stores
+//! that are often too small.
 
 use vpu_oracle::cuts::{few_calls, Cut};
 use vpu_oracle::damage::{odd_matrix, spoil};
 use vpu_oracle::judge::Start;
 use vpu_oracle::profiles::{Profile, PROFILES};
 use vpu_oracle::random::Random;
+use vpu_oracle::sprites::scatter;
 use vpu_oracle::streams::Stream;
 
 /// One turn of the profiles in so many has a stream of `largest`, which takes as long as hundreds of others.
@@ -27,6 +28,9 @@ pub fn case(seed: u64, index: u64) -> Case {
     let mut random = Random::named("compare", seed, index);
     let profile = profile(index);
     let (mut stream, _) = profile.stream(seed, index);
+    if random.chance(30) {
+        scatter(&mut stream, &mut random);
+    }
     match random.below(100) {
         0..=11 => spoil(&mut stream, &mut random),
         12..=19 => odd_matrix(&mut stream, &mut random),

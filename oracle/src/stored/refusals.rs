@@ -149,7 +149,8 @@ fn not_held() -> Vec<Named> {
     ]
 }
 
-/// Opcodes without a command, with and without words; opcode 0; counts above 524,291.
+/// Opcodes without a command, with and without words; 10, which has one, with a length that it does not take; opcode 0;
+/// counts above 524,291.
 fn unknown() -> Vec<Stored> {
     let mut streams = Vec::new();
     for opcode in [0x03, 0x10, 0x11, 0x13, 0x1c, 0x7f, 0x92, 0xff] {

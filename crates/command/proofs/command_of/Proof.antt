@@ -55,10 +55,14 @@ returns-12 c = sym (ap commandOf (c .match .keys12))
 
 returns-13 : tie.Need-returns-13
 unfolding commandOf
-returns-13 c =
+returns-13 c = sym (ap commandOf (c .match .keys13))
+
+returns-14 : tie.Need-returns-14
+unfolding commandOf
+returns-14 c =
     let op = c .before .args .opcode in
     let r = c .match .rest in
-    rw (ne-eqb op 0x01 (r .0 .0 .0 .0 .0 .0 .0 .0 .0 .0 .0 .1), ne-eqb op 0x02 (r .0 .0 .0 .0 .0 .0 .0 .0 .0 .0 .1), ne-eqb op 0x04 (r .0 .0 .0 .0 .0 .0 .0 .0 .0 .1), ne-eqb op 0x12 (r .0 .0 .0 .0 .0 .0 .0 .0 .1), ne-eqb op 0x14 (r .0 .0 .0 .0 .0 .0 .0 .1), ne-eqb op 0x15 (r .0 .0 .0 .0 .0 .0 .1), ne-eqb op 0x16 (r .0 .0 .0 .0 .0 .1), ne-eqb op 0x17 (r .0 .0 .0 .0 .1), ne-eqb op 0x18 (r .0 .0 .0 .1), ne-eqb op 0x19 (r .0 .0 .1), ne-eqb op 0x1a (r .0 .1), ne-eqb op 0x1b (r .1))
+    rw (ne-eqb op 0x01 (r .0 .0 .0 .0 .0 .0 .0 .0 .0 .0 .0 .0 .1), ne-eqb op 0x02 (r .0 .0 .0 .0 .0 .0 .0 .0 .0 .0 .0 .1), ne-eqb op 0x04 (r .0 .0 .0 .0 .0 .0 .0 .0 .0 .0 .1), ne-eqb op 0x10 (r .0 .0 .0 .0 .0 .0 .0 .0 .0 .1), ne-eqb op 0x12 (r .0 .0 .0 .0 .0 .0 .0 .0 .1), ne-eqb op 0x14 (r .0 .0 .0 .0 .0 .0 .0 .1), ne-eqb op 0x15 (r .0 .0 .0 .0 .0 .0 .1), ne-eqb op 0x16 (r .0 .0 .0 .0 .0 .1), ne-eqb op 0x17 (r .0 .0 .0 .0 .1), ne-eqb op 0x18 (r .0 .0 .0 .1), ne-eqb op 0x19 (r .0 .0 .1), ne-eqb op 0x1a (r .0 .1), ne-eqb op 0x1b (r .1))
 
 pub command-of-spec : {M : Type 1} → statement M
 command-of-spec =
@@ -76,4 +80,5 @@ command-of-spec =
     returns-10
     returns-11
     returns-12
-    returns-13)
+    returns-13
+    returns-14)

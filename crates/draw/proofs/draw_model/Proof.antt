@@ -8,7 +8,8 @@ use Rattle.store.specs.declared.Slot.{Slot}
 use Rattle.store.specs.declared.Kind.the-variants.{Texture, Model}
 use Rattle.store.specs.declared.Found.the-variants.{At}
 use Rattle.store.specs.Slots.{slotFor, lookIn}
-use Rattle.judge.proofs.Laws.{part-is, part-long, sides-at, inside-at, model-few, found-by, model-refused, model-done}
+use Rattle.store.proofs.Places.{part-is, part-long, sides-at, inside-at}
+use Rattle.judge.proofs.Laws.{model-few, found-by, model-refused, model-done}
 use Rattle.draw.specs.Draws.{hasIn}
 use Rattle.draw.proofs.Laws.{model-unpainted, model-painted}
 use borrow.Author.Needs.{needs}
@@ -89,7 +90,7 @@ draw-records-requires c κs =
     let start = start-of named in
     let slot = slot-of named in
     let sides = sides-at Model (start .args .model-slots) (start .args .models .now) (getD (start .args .p .now) 0 0) (long start) (start .pre .1 .1 .1 .1) slot (found-at told) in
-    let words = part-long Model (start .args .model-slots) (start .args .models .now) 0 (slot .start) (28 * slot .width) (28 * slot .width) refl (inside told) in
+    let words = part-long (start .args .models .now) (slot .start) (28 * slot .width) (28 * slot .width) refl (inside told) in
     (start .pre .0, (start .pre .1 .0, (start .pre .1 .1 .1 .0, (words, model-few (slot .width) (slot .height) sides))))
 
 same-length : tie.Need-same-length
@@ -107,7 +108,7 @@ returns-2 c =
     let slot = slot-of named in
     let textures = lookIn Texture (args .slots) (args .textures .now) in
     let v = named .mode-and-number .ensures .0 in
-    let part = part-is Model (args .model-slots) (args .models .now) 0 (slot .start) (28 * slot .width) (28 * slot .width) refl in
+    let part = part-is (args .models .now) (slot .start) (28 * slot .width) (28 * slot .width) refl in
     let strokes = model-painted (args .s) (args .p .now) textures (sheet (args .plane .now) (args .depth-f32 .now)) (args .model-slots) (args .models .now) v slot (told .enum-told .given .1) (found-at told) in
     (rw part at (drawn .draw-records .ensures .0) ∙ model-done _ _ v (hasIn textures) (args .s .matrices) (args .models .now) slot (told .enum-told .given .1) (found-at told), rw (← strokes) (rw part at (drawn .draw-records .ensures .1)))
 

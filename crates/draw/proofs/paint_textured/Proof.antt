@@ -1,10 +1,9 @@
 -- The corners lit, the brush, and the texture's own words. Assumes nothing.
-use mathlib.Core.List.{[]}
 use native.Mathlib.Omega.{arith}
 use borrow.Author.Needs.{needs}
 use Rattle.store.specs.Slots.{uploadAt}
 use Rattle.store.specs.declared.Kind.the-variants.{Texture}
-use Rattle.judge.proofs.Laws.{part-is, part-long}
+use Rattle.store.proofs.Places.{part-is, part-long}
 use Rattle.draw.proofs.Laws.{textured-stored, textured-painted}
 use Rattle.draw.proofs.paint_textured.Statement.{statement}
 use Rattle.draw.proofs.paint_textured.Tie as tie
@@ -42,7 +41,7 @@ paint-requires c κs =
     let brush = area .before .before in
     let start = brush .before .before .before .before .before .before in
     let slot = start .args .slot in
-    (start .pre .0, (start .pre .1 .0, textured-stored _ _ _ _ _ _ (brush .textured-brush .ensures) (start .pre .1 .1 .0) (part-long Texture [] (start .args .textures .now) 0 (slot .start) (area .area .result) _ (area .area .ensures) (start .pre .1 .1 .1))))
+    (start .pre .0, (start .pre .1 .0, textured-stored _ _ _ _ _ _ (brush .textured-brush .ensures) (start .pre .1 .1 .0) (part-long (start .args .textures .now) (slot .start) (area .area .result) _ (area .area .ensures) (start .pre .1 .1 .1))))
 
 same-length : tie.Need-same-length
 same-length c = search needs
@@ -57,7 +56,7 @@ returns c =
     let brush = area .before .before in
     let start = brush .before .before .before .before .before .before in
     let slot = start .args .slot in
-    let part = part-is Texture [] (start .args .textures .now) 0 (slot .start) (area .area .result) _ (area .area .ensures) in
+    let part = part-is (start .args .textures .now) (slot .start) (area .area .result) _ (area .area .ensures) in
     textured-painted _ _ _ _ _ (uploadAt Texture slot (start .args .textures .now)) _ _ _ _ (brush .before .textured-lit .ensures) (brush .textured-brush .ensures) part (drawn .paint .ensures)
 
 pub paint-textured-spec : {M : Type 1} → statement M

@@ -3,8 +3,8 @@ use mathlib.Core.Path.{_≡_, sym, ap, _∙_}
 use lib.ListN.{length}
 use borrow.Author.Needs.{needs}
 use Rattle.command.specs.Command.{drawWords}
-use Rattle.execute.specs.Commands.{flatPainted, transformedPainted, texturedPainted, modelPainted}
-use Rattle.execute.proofs.Painted.{by-length, by-draw, transformed-words, textured-words, flat-painted, strokes-painted}
+use Rattle.execute.specs.Commands.{spritePainted, flatPainted, transformedPainted, texturedPainted, modelPainted}
+use Rattle.execute.proofs.Painted.{by-length, by-draw, transformed-words, textured-words, sprite-painted, flat-painted, strokes-painted}
 use Rattle.execute.proofs.paint.paint.Statement.{statement}
 use Rattle.execute.proofs.paint.paint.Tie as tie
 
@@ -36,11 +36,20 @@ clear-requires c κs =
 enum-told-2 : tie.Need-enum-told-2
 enum-told-2 c = search needs
 
+draw-sprite-requires : tie.Need-draw-sprite-requires
+draw-sprite-requires c κs =
+    let t = c .before in
+    let e = t .before .before in
+    (start-of e .pre .0, (long e ∙ ap drawWords (t .enum-told2 .given .1), start-of e .pre .1 .1 .1 .0))
+
+enum-told-3 : tie.Need-enum-told-3
+enum-told-3 c = search needs
+
 draw-flat-triangle-requires : tie.Need-draw-flat-triangle-requires
 draw-flat-triangle-requires c κs =
     let t = c .before .before in
     let e = t .before .before in
-    (start-of e .pre .0, (start-of e .pre .1 .0, long e ∙ ap drawWords (t .enum-told2 .given .1)))
+    (start-of e .pre .0, (start-of e .pre .1 .0, long e ∙ ap drawWords (t .enum-told3 .given .1)))
 
 enum-known-draw : tie.Need-enum-known-draw
 enum-known-draw c = search needs
@@ -60,14 +69,14 @@ draw-textured-triangle-requires c κs =
     let e = t .before .before in
     (start-of e .pre .0, (start-of e .pre .1 .1 .0, (long e ∙ ap drawWords (t .draw2 .given .1) ∙ textured-words (t .draw2 .given .0 .0), start-of e .pre .1 .1 .1 .0)))
 
-enum-told-3 : tie.Need-enum-told-3
-enum-told-3 c = search needs
+enum-told-4 : tie.Need-enum-told-4
+enum-told-4 c = search needs
 
 draw-model-requires : tie.Need-draw-model-requires
 draw-model-requires c κs =
     let t = c .before .before in
     let e = t .before .before in
-    (start-of e .pre .0, (start-of e .pre .1 .1 .0, (long e ∙ ap drawWords (t .enum-told3 .given .1), (start-of e .pre .1 .1 .1 .0, start-of e .pre .1 .1 .1 .1))))
+    (start-of e .pre .0, (start-of e .pre .1 .1 .0, (long e ∙ ap drawWords (t .enum-told4 .given .1), (start-of e .pre .1 .1 .1 .0, start-of e .pre .1 .1 .1 .1))))
 
 same-length : tie.Need-same-length
 same-length c = search needs
@@ -87,55 +96,65 @@ returns-2 c =
 same-length-4 : tie.Need-same-length-4
 same-length-4 c = search needs
 
+returns-3 : tie.Need-returns-3
+unfolding spritePainted
+returns-3 c =
+    let d = c .before .before in
+    let t = d .before .before in
+    by-draw _ _ _ _ (long (t .before .before)) _ (t .enum-told2 .given .1) _ _ _ (d .draw-sprite .ensures .0) (sprite-painted _ _ _ _ _ _ (d .draw-sprite .ensures .1))
+
 same-length-5 : tie.Need-same-length-5
 same-length-5 c = search needs
-
-returns-3 : tie.Need-returns-3
-unfolding flatPainted
-returns-3 c =
-    let d = c .before .before .before in
-    let t = d .before .before .before in
-    let flat = d .draw-flat-triangle .ensures in
-    by-draw _ _ _ _ (long (t .before .before)) _ (t .enum-told2 .given .1) _ _ _ (flat .0) (flat-painted _ _ _ _ _ _ (flat .1 .0) (flat .1 .1))
 
 same-length-6 : tie.Need-same-length-6
 same-length-6 c = search needs
 
+returns-4 : tie.Need-returns-4
+unfolding flatPainted
+returns-4 c =
+    let d = c .before .before .before in
+    let t = d .before .before .before in
+    let flat = d .draw-flat-triangle .ensures in
+    by-draw _ _ _ _ (long (t .before .before)) _ (t .enum-told3 .given .1) _ _ _ (flat .0) (flat-painted _ _ _ _ _ _ (flat .1 .0) (flat .1 .1))
+
 same-length-7 : tie.Need-same-length-7
 same-length-7 c = search needs
-
-returns-4 : tie.Need-returns-4
-unfolding transformedPainted
-returns-4 c =
-    let d = c .before .before .before .before in
-    let t = d .before .before .before .before in
-    by-draw _ _ _ _ (long (t .before .before)) _ (t .draw .given .1) _ _ _ (d .draw-transformed-triangle .ensures .0) (strokes-painted _ _ _ _ _ _ (d .draw-transformed-triangle .ensures .1))
 
 same-length-8 : tie.Need-same-length-8
 same-length-8 c = search needs
 
-same-length-9 : tie.Need-same-length-9
-same-length-9 c = search needs
-
 returns-5 : tie.Need-returns-5
-unfolding texturedPainted
+unfolding transformedPainted
 returns-5 c =
     let d = c .before .before .before .before in
     let t = d .before .before .before .before in
-    by-draw _ _ _ _ (long (t .before .before)) _ (t .draw2 .given .1) _ _ _ (d .draw-textured-triangle .ensures .0) (strokes-painted _ _ _ _ _ _ (d .draw-textured-triangle .ensures .1))
+    by-draw _ _ _ _ (long (t .before .before)) _ (t .draw .given .1) _ _ _ (d .draw-transformed-triangle .ensures .0) (strokes-painted _ _ _ _ _ _ (d .draw-transformed-triangle .ensures .1))
+
+same-length-9 : tie.Need-same-length-9
+same-length-9 c = search needs
 
 same-length-10 : tie.Need-same-length-10
 same-length-10 c = search needs
 
+returns-6 : tie.Need-returns-6
+unfolding texturedPainted
+returns-6 c =
+    let d = c .before .before .before .before in
+    let t = d .before .before .before .before in
+    by-draw _ _ _ _ (long (t .before .before)) _ (t .draw2 .given .1) _ _ _ (d .draw-textured-triangle .ensures .0) (strokes-painted _ _ _ _ _ _ (d .draw-textured-triangle .ensures .1))
+
 same-length-11 : tie.Need-same-length-11
 same-length-11 c = search needs
 
-returns-6 : tie.Need-returns-6
+same-length-12 : tie.Need-same-length-12
+same-length-12 c = search needs
+
+returns-7 : tie.Need-returns-7
 unfolding modelPainted
-returns-6 c =
+returns-7 c =
     let d = c .before .before .before .before in
     let t = d .before .before .before in
-    by-draw _ _ _ _ (long (t .before .before)) _ (t .enum-told3 .given .1) _ _ _ (d .draw-model .ensures .0) (strokes-painted _ _ _ _ _ _ (d .draw-model .ensures .1))
+    by-draw _ _ _ _ (long (t .before .before)) _ (t .enum-told4 .given .1) _ _ _ (d .draw-model .ensures .0) (strokes-painted _ _ _ _ _ _ (d .draw-model .ensures .1))
 
 pub paint-spec : {M : Type 1} → statement M
 paint-spec =
@@ -147,26 +166,30 @@ paint-spec =
     enum-told
     clear-requires
     enum-told-2
+    draw-sprite-requires
+    enum-told-3
     draw-flat-triangle-requires
     enum-known-draw
     draw-transformed-triangle-requires
     enum-known-draw-2
     draw-textured-triangle-requires
-    enum-told-3
+    enum-told-4
     draw-model-requires
     same-length
     same-length-2
     same-length-3
     returns-2
     same-length-4
-    same-length-5
     returns-3
+    same-length-5
     same-length-6
-    same-length-7
     returns-4
+    same-length-7
     same-length-8
-    same-length-9
     returns-5
+    same-length-9
     same-length-10
+    returns-6
     same-length-11
-    returns-6)
+    same-length-12
+    returns-7)

@@ -1,19 +1,10 @@
 -- Each field is the answer of a call. Assumes nothing.
-use mathlib.Core.Path.{_≡_, refl, _∙_}
-use Prim.Native.Nat.{_^_, _<_}
-use lib.IntN.{ℤ}
-use lib.Signed.{mag}
-use mir.Syntax.{w64}
-use mir.Val.{toZ, ofZ, hbits}
-use mir.ValLaws.{toZ-ofZ}
-use borrow.Author.Needs.{needs, sfits-of}
+use mathlib.Core.Path.{refl}
+use borrow.Author.Needs.{needs}
+use Rattle.flat.proofs.Fits.{read-back}
 use Rattle.flat.specs.Words.{triOf}
 use Rattle.flat.proofs.tri.tri_of.Statement.{statement}
 use Rattle.flat.proofs.tri.tri_of.Tie as tie
-
--- an answer, read back
-read : (z v : ℤ) → mag z < 2 ^ hbits w64 → z ≡ v → toZ w64 (ofZ w64 z) ≡ v
-read z v f e = toZ-ofZ w64 z (sfits-of f) ∙ e
 
 shared-slice-read-rgb : tie.Need-shared-slice-read-rgb
 shared-slice-read-rgb c = search needs
@@ -97,15 +88,15 @@ returns c =
     let s7 = c .before .before .before .before .before .signed8 in
     let s8 = c .before .before .before .signed9 in
     rw (
-      read (s0 .result) _ (s0 .ok) (s0 .ensures),
-      read (s1 .result) _ (s1 .ok) (s1 .ensures),
-      read (s2 .result) _ (s2 .ok) (s2 .ensures),
-      read (s3 .result) _ (s3 .ok) (s3 .ensures),
-      read (s4 .result) _ (s4 .ok) (s4 .ensures),
-      read (s5 .result) _ (s5 .ok) (s5 .ensures),
-      read (s6 .result) _ (s6 .ok) (s6 .ensures),
-      read (s7 .result) _ (s7 .ok) (s7 .ensures),
-      read (s8 .result) _ (s8 .ok) (s8 .ensures),
+      read-back (s0 .result) _ (s0 .ok) (s0 .ensures),
+      read-back (s1 .result) _ (s1 .ok) (s1 .ensures),
+      read-back (s2 .result) _ (s2 .ok) (s2 .ensures),
+      read-back (s3 .result) _ (s3 .ok) (s3 .ensures),
+      read-back (s4 .result) _ (s4 .ok) (s4 .ensures),
+      read-back (s5 .result) _ (s5 .ok) (s5 .ensures),
+      read-back (s6 .result) _ (s6 .ok) (s6 .ensures),
+      read-back (s7 .result) _ (s7 .ok) (s7 .ensures),
+      read-back (s8 .result) _ (s8 .ok) (s8 .ensures),
       c .before .before .shaded .ensures,
       c .before .shaded2 .ensures,
       c .shaded3 .ensures,

@@ -8,7 +8,8 @@ use Rattle.store.specs.Slots.{slotFor}
 use Rattle.store.specs.declared.Slot.{Slot}
 use Rattle.store.specs.declared.Kind.the-variants.{Model}
 use Rattle.store.specs.declared.Found.the-variants.{At}
-use Rattle.judge.proofs.Laws.{part-is, part-long, sides-at, inside-at, model-few, found-by, model-refused, model-done}
+use Rattle.store.proofs.Places.{part-is, part-long, sides-at, inside-at}
+use Rattle.judge.proofs.Laws.{model-few, found-by, model-refused, model-done}
 use Rattle.judge.proofs.model.model_verdict.Statement.{statement}
 use Rattle.judge.proofs.model.model_verdict.Tie as tie
 
@@ -80,14 +81,14 @@ records-requires c κs =
     let told = c .before .before .before .before in
     let start = start-of told in
     let slot = slot-of told in
-    (part-long Model (start .args .model-slots) (start .args .models .now) 0 (slot .start) (28 * slot .width) (28 * slot .width) refl (inside told), model-few (slot .width) (slot .height) (sides-at Model (start .args .model-slots) (start .args .models .now) (getD (start .args .p .now) 0 0) (long start) (start .pre .1) slot (found-at told)))
+    (part-long (start .args .models .now) (slot .start) (28 * slot .width) (28 * slot .width) refl (inside told), model-few (slot .width) (slot .height) (sides-at Model (start .args .model-slots) (start .args .models .now) (getD (start .args .p .now) 0 0) (long start) (start .pre .1) slot (found-at told)))
 
 returns-2 : tie.Need-returns-2
 returns-2 c =
     let told = c .before .before .before .before .before in
     let start = start-of told in
     let slot = slot-of told in
-    let part = part-is Model (start .args .model-slots) (start .args .models .now) 0 (slot .start) (28 * slot .width) (28 * slot .width) refl in
+    let part = part-is (start .args .models .now) (slot .start) (28 * slot .width) (28 * slot .width) refl in
     rw part at (c .records .ensures) ∙ model-done _ _ (told .before .before .before .mode-and-number .ensures .0) _ _ _ slot (told .enum-told .given .1) (found-at told)
 
 pub model-verdict-spec : {M : Type 1} → statement M

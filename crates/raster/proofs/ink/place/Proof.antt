@@ -6,7 +6,7 @@ use lib.Ieee.{binary32, ofInt}
 use Rattle.ieee.proofs.Cuts.{cut-le}
 use Rattle.vector.specs.Three.{_·_}
 use Rattle.raster.specs.Ink.{placeOf}
-use Rattle.raster.proofs.Grid.{grid, small}
+use Rattle.texel.proofs.Grid.{grid, small}
 use borrow.Author.Needs.{needs}
 use Rattle.raster.proofs.ink.place.Statement.{statement}
 use Rattle.raster.proofs.ink.place.Tie as tie

@@ -1,5 +1,6 @@
 -- Ink by ink. Assumes nothing.
 use mathlib.Core.Path.{_∙_}
+use Rattle.texel.specs.Texel.{texelAt}
 use Rattle.raster.specs.Ink.{shadeOf, texelOf}
 use Rattle.raster.proofs.Nibbles.{nibbles-back}
 use borrow.Author.Needs.{needs}
@@ -23,7 +24,7 @@ texel-requires c κs = rw (c .before .ink3 .given .1) at (c .before .before .bef
 
 -- a texel is nibbles, and these come back from floats
 toned-requires : tie.Need-toned-requires
-unfolding texelOf
+unfolding texelOf texelAt
 toned-requires c κs = rw (c .texel .ensures) (nibbles-back _)
 
 returns : tie.Need-returns

@@ -1,9 +1,9 @@
 -- By definition. Assumes nothing.
 use mathlib.Core.Path.{refl}
-use Rattle.raster.specs.Ink.{nibblesOf}
+use Rattle.texel.specs.Texel.{nibblesOf}
 use borrow.Author.Needs.{needs}
-use Rattle.raster.proofs.ink.nibbles.Statement.{statement}
-use Rattle.raster.proofs.ink.nibbles.Tie as tie
+use Rattle.texel.proofs.nibbles.Statement.{statement}
+use Rattle.texel.proofs.nibbles.Tie as tie
 
 mul-t4 : tie.Need-mul-t4
 mul-t4 c = search needs

@@ -2,10 +2,10 @@
 use native.Mathlib.Omega.{arith}
 use Prim.Native.Nat.{_/_}
 use borrow.Author.Tests.{eq-eqb, ne-eqb}
-use Rattle.raster.specs.Ink.{halfOf}
+use Rattle.texel.specs.Texel.{halfOf}
 use borrow.Author.Needs.{needs}
-use Rattle.raster.proofs.ink.half.Statement.{statement}
-use Rattle.raster.proofs.ink.half.Tie as tie
+use Rattle.texel.proofs.half.Statement.{statement}
+use Rattle.texel.proofs.half.Tie as tie
 
 mul-result : tie.Need-mul-result
 mul-result c = search needs

@@ -1,0 +1,3 @@
+pub mod Sprite
+pub mod Spans
+pub mod Words
