@@ -1,6 +1,6 @@
 -- Rules 9.6 to 9.10, of the command's own definitions over its words; and what it leaves at each place. Assumes nothing.
 use mathlib.Core.Path.{◌≡◌, refl, sym, ap, ◌∙◌}
-use mathlib.Core.Bool.{Bool, true, false, cond, and_false}
+use mathlib.Core.Bool.{Bool, true, false, cond, and-false}
 use mathlib.Core.List.{List, [], ◌∷◌}
 use Prim.Native.Nat.{ℕ, zero, suc, ◌+◌, ◌*◌, ◌/◌, ◌%◌, ◌<◌, ◌≤◌}
 use native.Mathlib.Nat.{zero-add, suc-add}
@@ -126,7 +126,7 @@ eight_depth x y =
 
 never : (k : ℕ) → shows (tri_of eight) k far ≡ false
 unfolding shows
-never k = rw (eight_depth (k % width) (k / width)) (and_false (covers (tri_of eight) (k % width) (k / width)))
+never k = rw (eight_depth (k % width) (k / width)) (and-false (covers (tri_of eight) (k % width) (k / width)))
 
 pub case_8 : (D : List ℤ) (P : List ℕ) → D ≡ far_ints pixels → length P ≡ plane_bytes → (flat_depths eight D ≡ D) × (flat_plane eight D P ≡ P)
 unfolding flat_depths flat_plane tri_depths tri_plane depth_step byte_step

@@ -1,7 +1,7 @@
 -- Tests: what one that joins others says of its parts, what a callee's answer says of the test that it computes, and what holds in both cases. Assumes nothing.
 use mathlib.Core.Path.{◌≡◌, refl, sym, ◌∙◌}
 use mathlib.Core.Bool.{Bool, true, false, cond, not, ◌&&◌, ◌||◌, true≢false, false≢true}
-use borrow.Author.Tests.{not_true, not_false}
+use borrow.Author.Tests.{not-true, not-false}
 
 pub and_left : (a b : Bool) → (a && b) ≡ true → a ≡ true
 and_left true b h = refl
@@ -25,10 +25,10 @@ cond_both false x h = absurd (false≢true h)
 
 -- a callee answers `a` for the test `b`, and its caller goes on by `!a`
 pub passed : {a b : Bool} → a ≡ b → not a ≡ false → b ≡ true
-passed e t = sym e ∙ not_false _ t
+passed e t = sym e ∙ not-false _ t
 
 pub failed : {a b : Bool} → a ≡ b → not a ≡ true → b ≡ false
-failed e t = sym e ∙ not_true _ t
+failed e t = sym e ∙ not-true _ t
 
 -- what holds in both cases of a test
 pub either : {A : Type 0} (P : A → Type 0) (b : Bool) (x y : A) → P x → P y → P (cond b x y)

@@ -6,7 +6,7 @@
 --     range-join                   a range after the one below it
 --     range-set                    a store at the end of a range: a turn of a loop
 use mathlib.Core.Path.{◌≡◌, refl, sym, ap, ◌∙◌}
-use mathlib.Core.Bool.{Bool, true, false, and_false}
+use mathlib.Core.Bool.{Bool, true, false, and-false}
 use mathlib.Core.List.{List, [], ◌∷◌}
 use Prim.Native.Nat.{ℕ, zero, suc, ◌+◌, ◌<◌, ◌≤◌}
 use native.Mathlib.Nat.{add-zero, zero-add, add-suc, suc-add, le_of_suc-le-suc, not-suc-le-zero}
@@ -29,7 +29,7 @@ under lo hi k p = simp (lt-leb lo k p)
 
 pub over : (lo hi k : ℕ) → hi ≤ k → between lo hi k ≡ false
 unfolding between
-over lo hi k p = simp (le-ltb k hi p) (and_false (leb lo k))
+over lo hi k p = simp (le-ltb k hi p) (and-false (leb lo k))
 
 module _ {A : Type 0} where
   length_from : (f : ℕ → A → A) (i : ℕ) (xs : List A) → length (map_from f i xs) ≡ length xs

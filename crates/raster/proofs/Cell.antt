@@ -1,6 +1,6 @@
 -- `Rattle.screen.proofs.Draw`, at a float triangle: a run outside the box, and one pixel. Assumes nothing.
 use Rattle.std.proofs.Common.{◌≡◌, ℕ, ◌+◌, ◌*◌, ◌/◌, ◌%◌, ◌<◌, ◌≤◌, Bool, true, false, ◌&&◌, ltb, leb, List, length, get_or, set, ◌∙◌, arith, le-ltb, lt-ltb, le-leb}
-use mathlib.Core.Bool.{and_false}
+use mathlib.Core.Bool.{and-false}
 use borrow.Author.Tests.{lt-leb}
 use lib.Ieee.{Float, nan}
 use Rattle.laws.specs.Cells.{map_range}
@@ -28,15 +28,15 @@ module _ (r : Bounds) (x y : ℕ) where
 
   pub from_right : r.right ≤ x → within r x y ≡ false
   unfolding within
-  from_right h = simp (le-ltb x r.right h, and_false (leb r.left x))
+  from_right h = simp (le-ltb x r.right h, and-false (leb r.left x))
 
   pub above_top : y < r.top → within r x y ≡ false
   unfolding within
-  above_top h = simp (lt-leb r.top y h) (and_false (leb r.left x && ltb x r.right))
+  above_top h = simp (lt-leb r.top y h) (and-false (leb r.left x && ltb x r.right))
 
   pub from_bottom : r.bottom ≤ y → within r x y ≡ false
   unfolding within
-  from_bottom h = simp (le-ltb y r.bottom h, and_false (leb r.top y)) (and_false (leb r.left x && ltb x r.right))
+  from_bottom h = simp (le-ltb y r.bottom h, and-false (leb r.top y)) (and-false (leb r.left x && ltb x r.right))
 
 -- ---- a run outside the box
 pub drawn-clear : (W : List ℕ) (i : Ink) (f : Face) (lo hi : ℕ) (D : List Float) (P : List ℕ)
@@ -63,7 +63,7 @@ module _ (W : List ℕ) (i : Ink) (f : Face) (x y k : ℕ) (D : List Float) (P :
   -- not covered
   pub drawn_out : covers f x y ≡ false → FaceDrawn W i f k (k + 1) D P D P
   unfolding shows_at
-  drawn_out h = drawn_same (rw h (and_false (within f.bounds x y)))
+  drawn_out h = drawn_same (rw h (and-false (within f.bounds x y)))
 
   pub drawn-new : (z : Float) (s : Shade) (P' : List ℕ) → shows_at f x y (get_or D k nan) ≡ true → depth_at f x y ≡ z → shade_of W i (bary_of f x y) f.inv_w ≡ s → k < length D
       → P' ≡ map_range (inked s) (k * 4) (k * 4 + 4) P → FaceDrawn W i f k (k + 1) D P (set D k z) P'

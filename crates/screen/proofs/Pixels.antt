@@ -1,7 +1,7 @@
 -- Reading a pixel, case by case: what `pixel_of` is if the length is wrong, if the pixel is off the screen, and if it is on it. Assumes nothing.
 use Prim.Native.Nat.{ℕ, ◌+◌, ◌*◌, ◌<◌, ◌≤◌}
 use mathlib.Core.Path.{◌≡◌}
-use mathlib.Core.Bool.{and_false}
+use mathlib.Core.Bool.{and-false}
 use mathlib.Core.List.{List}
 use borrow.Author.Tests.{lt-ltb, le-ltb, eq-eqb, ne_eqb}
 use lib.Dec.{ltb}
@@ -20,7 +20,7 @@ module _ (P : List ℕ) (x y : ℕ) where
 
     pub below_bottom : height ≤ y → pixel_of P x y ≡ record { number = 0; bytes = nothing }
     unfolding pixel_of
-    below_bottom h = simp (eq-eqb (length P) plane_bytes right, le-ltb y height h, and_false (ltb x width))
+    below_bottom h = simp (eq-eqb (length P) plane_bytes right, le-ltb y height h, and-false (ltb x width))
 
     pub on_screen : x < width → y < height → pixel_of P x y ≡ record { number = 0; bytes = four_from P ((y * width + x) * 4) }
     unfolding pixel_of

@@ -1,7 +1,7 @@
 -- A test of every element of a list: its turns along the list, its elements, and what the lists made of others inherit. Assumes nothing.
 use Prim.Native.Nat.{ℕ, zero, suc, ◌+◌, ◌≤◌, ◌<◌}
 use mathlib.Core.Path.{◌≡◌, refl, ap, ◌∙◌}
-use mathlib.Core.Bool.{Bool, true, false, ◌&&◌, and_false, and_assoc, and-eq-true_iff}
+use mathlib.Core.Bool.{Bool, true, false, ◌&&◌, and-false, and_assoc, and-eq-true_iff}
 use mathlib.Core.List.{List, [], ◌∷◌, ◌++◌}
 use native.Mathlib.Numerals.{add-one}
 use native.Mathlib.Omega.{arith}
@@ -29,7 +29,7 @@ module _ {A : Type 0} (f : A → Bool) where
   unfolding all_of
   all_not [] i d h e = absurd (omega arith)
   all_not (x ∷ l) zero d h e = rw e
-  all_not (x ∷ l) (suc i) d h e = ap (λ (b : Bool). f x && b) (all_not l i d (omega arith) e) ∙ and_false (f x)
+  all_not (x ∷ l) (suc i) d h e = ap (λ (b : Bool). f x && b) (all_not l i d (omega arith) e) ∙ and-false (f x)
 
   -- every element does
   pub all-is : (l : List A) (d : A) → ((i : ℕ) → i < length l → f (get_or l i d) ≡ true) → all_of f l ≡ true

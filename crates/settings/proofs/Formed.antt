@@ -1,7 +1,7 @@
 -- Settings start well formed, and each command leaves them so and as long as they were; each clause of "well formed" decides by itself. Assumes nothing.
 use Prim.Native.Nat.{ℕ, ◌+◌, ◌*◌, ◌≤◌, ◌<◌}
 use mathlib.Core.Path.{◌≡◌, refl, ◌∙◌}
-use mathlib.Core.Bool.{true, false, ◌&&◌, and_false, and-eq-true_iff}
+use mathlib.Core.Bool.{true, false, ◌&&◌, and-false, and-eq-true_iff}
 use mathlib.Core.List.{List, ◌++◌}
 use native.Mathlib.Omega.{arith}
 use borrow.Author.Tests.{leb-true, le-leb, lt-leb}
@@ -45,10 +45,10 @@ module _ (s : Settings) where
 light_not : (l : Light) (t : Term) → finite_list (term t l) ≡ false → light_ok l ≡ false
 unfolding light_ok
 light_not l ambient e = rw e
-light_not l diffuse e = rw e (simp and_false)
-light_not l specular e = rw e (simp and_false)
-light_not l emission e = rw e (simp and_false)
-light_not l position e = rw e (simp and_false)
+light_not l diffuse e = rw e (simp and-false)
+light_not l specular e = rw e (simp and-false)
+light_not l emission e = rw e (simp and-false)
+light_not l position e = rw e (simp and-false)
 
 light_is : (l : Light) → ((t : Term) → finite_list (term t l) ≡ true) → light_ok l ≡ true
 unfolding light_ok
@@ -64,11 +64,11 @@ module _ (s : Settings) where
   unfolding settings_ok
   light_not_finite k l t i d h j e =
       let light : Light = get_or s.lights k l in
-      rw (all_not light_ok s.lights k l h (light_not light t (all_not finite (term t light) i d j e))) (simp and_false)
+      rw (all_not light_ok s.lights k l h (light_not light t (all_not finite (term t light) i d j e))) (simp and-false)
 
   pub mode_not_small : 1 < s.shading_mode → settings_ok s ≡ false
   unfolding settings_ok
-  mode_not_small h = rw (lt-leb s.shading_mode 1 h) (simp and_false)
+  mode_not_small h = rw (lt-leb s.shading_mode 1 h) (simp and-false)
 
   -- and nothing else does: so mode 1 with finite floats is well formed
   pub finite_formed : (d : Float) (dark : Light) → s.shading_mode ≤ 1 → ((i : ℕ) → i < length s.matrices → finite (get_or s.matrices i d) ≡ true)

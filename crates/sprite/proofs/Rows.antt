@@ -1,6 +1,6 @@
 -- A copy by rows and by pixels: what is not under the sprite stays, a pixel that is gets its texel, and that texel is in the texture's words. Assumes nothing.
 use mathlib.Core.Path.{◌≡◌, ◌∙◌}
-use mathlib.Core.Bool.{true, false, and_false}
+use mathlib.Core.Bool.{true, false, and-false}
 use mathlib.Core.List.{List}
 use Prim.Native.Nat.{ℕ, ◌+◌, ◌-◌, ◌*◌, ◌/◌, ◌%◌, ◌<◌, ◌≤◌}
 use native.Mathlib.Omega.{arith}
@@ -79,4 +79,4 @@ module _ (s : Sprite) where
   unfolding sprite_byte covers
   rows_clear T lo hi P h =
       range_skip 0 (sprite_byte s T) (lo * width * 4) (hi * width * 4) P
-      (λ k p q. rw (h (k / 4 / width) (omega arith) (omega arith), and_false (under s.x s.width (k / 4 % width))))
+      (λ k p q. rw (h (k / 4 / width) (omega arith) (omega arith), and-false (under s.x s.width (k / 4 % width))))

@@ -1,7 +1,7 @@
 -- Each clause of "well formed" decides by itself: a state that breaks one is malformed, whatever the rest of it is. Assumes nothing.
 use Prim.Native.Nat.{ℕ, zero, suc, ◌+◌, ◌≤◌, ◌<◌}
 use mathlib.Core.Path.{◌≡◌, ◌∙◌}
-use mathlib.Core.Bool.{true, false, ◌&&◌, and_false}
+use mathlib.Core.Bool.{true, false, ◌&&◌, and-false}
 use mathlib.Core.List.{List}
 use native.Mathlib.Omega.{arith}
 use borrow.Author.Tests.{ne_eqb, lt-leb}
@@ -29,7 +29,7 @@ module _ (g w : ℕ) where
   idle_gathered h = begun-none g w ∙ rw (ne_eqb g 0 (λ e. omega arith))
 
   pub idle_wanted : 0 < w → begun_ok 0 g w ≡ false
-  idle_wanted h = begun-none g w ∙ rw (ne_eqb w 0 (λ e. omega arith)) (and_false (eqb g 0))
+  idle_wanted h = begun-none g w ∙ rw (ne_eqb w 0 (λ e. omega arith)) (and-false (eqb g 0))
 
   pub opcode_large : (op : ℕ) → 255 < op → begun_ok op g w ≡ false
   opcode_large op h = begun_some g w op (omega arith) ∙ rw (lt-leb op 255 h)
@@ -40,14 +40,14 @@ module _ (g w : ℕ) where
       go : (a b : ℕ) → 524292 ≤ a + b → (eqb a 0 && eqb b 0) ≡ false
       go zero b p = ne_eqb b 0 (λ e. omega arith)
       go (suc a) b p = rw (ne_eqb (suc a) 0 (λ e. omega arith))
-  sum_large (suc op) h = begun_some g w (suc op) (omega arith) ∙ rw (lt-leb (g + w) most_payload (omega arith)) (simp and_false)
+  sum_large (suc op) h = begun_some g w (suc op) (omega arith) ∙ rw (lt-leb (g + w) most_payload (omega arith)) (simp and-false)
 
   -- one word less is taken
   pub sum-most : (op : ℕ) → 0 < op → op ≤ 255 → 0 < w → g + w ≡ 524291 → begun_ok op g w ≡ true
   sum-most op a b c e = begun_made g w op a b c (omega arith)
 
 pub wants_nothing : (op g : ℕ) → 0 < op → begun_ok op g 0 ≡ false
-wants_nothing op g h = begun_some g 0 op h ∙ and_false (leb op 255)
+wants_nothing op g h = begun_some g 0 op h ∙ and-false (leb op 255)
 
 module _ (s : State) (t m : ℕ) where
   pub idle_gathered_not : s.opcode ≡ 0 → 0 < s.gathered → well_formed s t m ≡ false
@@ -134,7 +134,7 @@ module _ (s : State) (t m i : ℕ) where
     count_zero_not e = models_not s t m (sides_wrong Model m s.models i here h (rw e))
 
     pub count_large_not : 18724 < y.width → well_formed s t m ≡ false
-    count_large_not e = models_not s t m (sides_wrong Model m s.models i here h (rw (lt-leb y.width 18724 e) (simp and_false)))
+    count_large_not e = models_not s t m (sides_wrong Model m s.models i here h (rw (lt-leb y.width 18724 e) (simp and-false)))
 
     pub height_not : (y.height ≡ 0 → ⊥) → well_formed s t m ≡ false
-    height_not n = models_not s t m (sides_wrong Model m s.models i here h (rw (ne_eqb y.height 0 n) (simp and_false)))
+    height_not n = models_not s t m (sides_wrong Model m s.models i here h (rw (ne_eqb y.height 0 n) (simp and-false)))

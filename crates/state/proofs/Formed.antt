@@ -1,7 +1,7 @@
 -- "Well formed" by its four parts: what each says, that each one missing decides, and that the fresh state has all of them. Assumes nothing.
 use Prim.Native.Nat.{ℕ, zero, suc, ◌+◌, ◌≤◌, ◌<◌}
 use mathlib.Core.Path.{◌≡◌, refl, sym, ◌∙◌}
-use mathlib.Core.Bool.{Bool, true, false, ◌&&◌, and_false, or_false}
+use mathlib.Core.Bool.{Bool, true, false, ◌&&◌, and-false, or-false}
 use native.Mathlib.Omega.{arith}
 use borrow.Author.Tests.{leb-true, ltb-true, eqb-true, le-leb, lt-ltb, ne_eqb}
 use lib.Dec.{eqb, leb, ltb}
@@ -19,7 +19,7 @@ use Rattle.state.specs.declared.State.{State}
 module _ (g w : ℕ) where
   pub begun-none : begun_ok 0 g w ≡ (eqb g 0 && eqb w 0)
   unfolding begun_ok
-  begun-none = or_false (eqb g 0 && eqb w 0)
+  begun-none = or-false (eqb g 0 && eqb w 0)
 
   pub begun_some : (op : ℕ) → 0 < op → begun_ok op g w ≡ (leb op 255 && (ltb 0 w && leb (g + w) most_payload))
   unfolding begun_ok
@@ -70,15 +70,15 @@ module _ (s : State) (t m : ℕ) where
 
   pub begun_not : begun_ok s.opcode s.gathered s.wanted ≡ false → well_formed s t m ≡ false
   unfolding well_formed
-  begun_not e = rw e (simp and_false)
+  begun_not e = rw e (simp and-false)
 
   pub textures_not : slots_ok Texture t 0 s.textures ≡ false → well_formed s t m ≡ false
   unfolding well_formed
-  textures_not e = rw e (simp and_false)
+  textures_not e = rw e (simp and-false)
 
   pub models_not : slots_ok Model m 0 s.models ≡ false → well_formed s t m ≡ false
   unfolding well_formed
-  models_not e = rw e (simp and_false)
+  models_not e = rw e (simp and-false)
 
   -- with the others there, the models decide
   pub models_left : settings_ok s.settings ≡ true → begun_ok s.opcode s.gathered s.wanted ≡ true → slots_ok Texture t 0 s.textures ≡ true

@@ -1,10 +1,10 @@
 -- Each clause of "well formed" about slots decides by itself, of a store's slots and length alone. Assumes nothing.
 use Prim.Native.Nat.{ℕ, zero, suc, ◌+◌, ◌<◌}
 use mathlib.Core.Path.{◌≡◌, refl, sym, ap, ◌∙◌}
-use mathlib.Core.Bool.{Bool, true, false, cond, not, ◌&&◌, and_false, true≢false}
+use mathlib.Core.Bool.{Bool, true, false, cond, not, ◌&&◌, and-false, true≢false}
 use mathlib.Core.List.{List, [], ◌∷◌}
 use native.Mathlib.Omega.{arith}
-use borrow.Author.Tests.{ne_eqb, le-leb, lt-leb, not_true}
+use borrow.Author.Tests.{ne_eqb, le-leb, lt-leb, not-true}
 use lib.Dec.{eqb, leb}
 use lib.ListN.{length, take, drop, get_or}
 use Rattle.store.specs.declared.Slot.{Slot}
@@ -32,7 +32,7 @@ unused-held (x ∷ xs) (suc i) h e = unused_cons x xs (unused-held xs i (omega a
 
 unused_free : (x : Slot) (xs : List Slot) → unused (x ∷ xs) ≡ true → x.held ≡ false
 unused_free x xs e =
-    not_true x.held
+    not-true x.held
     (and_left (not x.held) ((eqb x.number 0 && eqb x.width 0) && (eqb x.height 0 && eqb x.start 0)) (cond_both (zero_slot x) (unused xs) e).0)
 
 not_first : (b y : Bool) → cond b false y ≡ true → y ≡ true
@@ -111,14 +111,14 @@ module _ (k : Kind) (size : ℕ) where
     where
       go : (t : Bool) → fresh x.number xs ≡ t → slots_ok k size at (x ∷ xs) ≡ false
       go true f = held_not at x xs h (ends_early x.number xs j (at + area_of k x.width x.height) (omega arith) e (sym d) f)
-      go false f = ok_no (x ∷ xs) 0 (omega arith) k size at h (rw f (simp and_false))
+      go false f = ok_no (x ∷ xs) 0 (omega arith) k size at h (rw f (simp and-false))
   twice_wrong (x ∷ xs) (suc i) (suc j) at a b h e d =
       by_first at x xs (λ z. twice_wrong xs i j (at + area_of k x.width x.height) (omega arith) (omega arith) h e d) (λ z. unused-held xs j (omega arith) e)
 
   -- an area that does not begin where those before it end
   pub start_wrong : (l : List Slot) (i at : ℕ) → i < length l → (get_or l i no_slot).held ≡ true → ((get_or l i no_slot).start ≡ at + total (told k (take i l)) → ⊥) → slots_ok k size at l ≡ false
   start_wrong [] i at b h n = absurd (omega arith)
-  start_wrong (x ∷ xs) zero at b h n = ok_no (x ∷ xs) 0 (omega arith) k size at h (rw (ne_eqb x.start at (λ q. n (omega arith))) (simp and_false))
+  start_wrong (x ∷ xs) zero at b h n = ok_no (x ∷ xs) 0 (omega arith) k size at h (rw (ne_eqb x.start at (λ q. n (omega arith))) (simp and-false))
   start_wrong (x ∷ xs) (suc i) at b h n =
       by_first at x xs
       (λ e.
@@ -145,14 +145,14 @@ module _ (k : Kind) (size : ℕ) where
 -- ---- which sides are wrong, and which unused slots are not zero
 pub texture_zero : (d : Side) (x : Slot) → side d x ≡ 0 → sides_ok Texture x.width x.height ≡ false
 texture_zero wide x e = rw e
-texture_zero high x e = rw e (simp and_false)
+texture_zero high x e = rw e (simp and-false)
 
 pub texture_large : (d : Side) (x : Slot) → 1024 < side d x → sides_ok Texture x.width x.height ≡ false
-texture_large wide x h = rw (lt-leb x.width 1024 h) (simp and_false)
-texture_large high x h = rw (lt-leb x.height 1024 h) (simp and_false)
+texture_large wide x h = rw (lt-leb x.width 1024 h) (simp and-false)
+texture_large high x h = rw (lt-leb x.height 1024 h) (simp and-false)
 
 pub not_zero : (f : Field) (x : Slot) → (field f x ≡ 0 → ⊥) → zero_slot x ≡ false
-not_zero number x h = rw (ne_eqb x.number 0 h) (simp and_false)
-not_zero width x h = rw (ne_eqb x.width 0 h) (simp and_false)
-not_zero height x h = rw (ne_eqb x.height 0 h) (simp and_false)
-not_zero start x h = rw (ne_eqb x.start 0 h) (simp and_false)
+not_zero number x h = rw (ne_eqb x.number 0 h) (simp and-false)
+not_zero width x h = rw (ne_eqb x.width 0 h) (simp and-false)
+not_zero height x h = rw (ne_eqb x.height 0 h) (simp and-false)
+not_zero start x h = rw (ne_eqb x.start 0 h) (simp and-false)

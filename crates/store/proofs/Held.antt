@@ -9,7 +9,7 @@ use native.Mathlib.Nat.{add-zero, zero-add, sub-zero, suc-sub-suc}
 use lib.ListN.{length, take, drop, replicate, length-append, length-replicate, length-drop, take-append-drop}
 use lib.Seq.{drop-drop, take-append_seam, drop-append_seam, drop_at, length-take-le}
 use lib.Dec.{eqb, leb}
-use borrow.Author.Tests.{eqb-true, eq-eqb, leb-true, le-leb, not_true}
+use borrow.Author.Tests.{eqb-true, eq-eqb, leb-true, le-leb, not-true}
 use Rattle.laws.proofs.Bools.{and_left, and_right, cond_both}
 use Rattle.store.proofs.Laws.{Apart, All, Space, all-stored, apart-stored, total-stored, length-stored, length-words_of, words_of-append, cards-stored}
 use Rattle.store.specs.Uploads.{Whole, Card, card, cards, without, find, is_some, holds, words_of, total, stored}
@@ -97,7 +97,7 @@ is-no_slot s h =
     let c : Bool = eqb s.height 0 in
     let d : Bool = eqb s.start 0 in
     let rest : (a && b) && (c && d) ≡ true = and_right (not s.held) ((a && b) && (c && d)) h in
-    let e : s.held ≡ false = not_true s.held (and_left (not s.held) ((a && b) && (c && d)) h) in
+    let e : s.held ≡ false = not-true s.held (and_left (not s.held) ((a && b) && (c && d)) h) in
     let f : s.number ≡ 0 = eqb-true s.number 0 (and_left a b (and_left (a && b) (c && d) rest)) in
     let g : s.width ≡ 0 = eqb-true s.width 0 (and_right a b (and_left (a && b) (c && d) rest)) in
     let x : s.height ≡ 0 = eqb-true s.height 0 (and_left c d (and_right (a && b) (c && d) rest)) in

@@ -1,7 +1,7 @@
 -- The first refusal: which one is kept, and that what is kept is well formed. Assumes nothing.
 use Prim.Native.Nat.{ℕ, ◌≤◌, ◌<◌}
 use mathlib.Core.Path.{◌≡◌, refl}
-use mathlib.Core.Bool.{Bool, true, false, cond, ◌&&◌, and_false}
+use mathlib.Core.Bool.{Bool, true, false, cond, ◌&&◌, and-false}
 use native.Mathlib.Omega.{arith}
 use borrow.Author.Tests.{eq-eqb, ne_eqb, le-leb, lt-leb}
 use lib.Dec.{eqb, leb}
@@ -65,15 +65,15 @@ module _ (f : Refusal) where
 
   pub index_alone : f.reason ≡ 0 → 0 < f.index → refusal_ok f ≡ false
   unfolding refusal_ok
-  index_alone e h = rw (eq-eqb f.reason 0 e, ne_eqb f.index 0 (λ z. omega arith)) (and_false (eqb f.opcode 0))
+  index_alone e h = rw (eq-eqb f.reason 0 e, ne_eqb f.index 0 (λ z. omega arith)) (and-false (eqb f.opcode 0))
 
   pub index_large : 28 < f.index → refusal_ok f ≡ false
   unfolding refusal_ok
   index_large h = go (eqb f.reason 0)
     where
       go : (b : Bool) → cond b (eqb f.opcode 0 && eqb f.index 0) (leb f.reason 10 && leb f.index 28) ≡ false
-      go true = rw (ne_eqb f.index 0 (λ z. omega arith)) (and_false (eqb f.opcode 0))
-      go false = rw (lt-leb f.index 28 h) (and_false (leb f.reason 10))
+      go true = rw (ne_eqb f.index 0 (λ z. omega arith)) (and-false (eqb f.opcode 0))
+      go false = rw (lt-leb f.index 28 h) (and-false (leb f.reason 10))
 
 -- ---- what is kept is well formed, if the index of the verdict is low
 abbrev pub Low : ℕ → Verdict → Type 0

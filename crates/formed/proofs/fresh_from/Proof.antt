@@ -3,7 +3,7 @@ use Prim.Native.Nat.{◌-◌, ◌≤◌}
 use mathlib.Core.Path.{◌≡◌, refl, sym, ap, ◌∙◌}
 use native.Mathlib.Omega.{arith}
 use borrow.Author.Rules.{rules}
-use borrow.Author.Tests.{not_true, not_false}
+use borrow.Author.Tests.{not-true, not-false}
 use lib.ListN.{length, drop}
 use Rattle.store.specs.Slots.{fresh}
 use Rattle.store.proofs.Walk.{fresh_end, fresh_not, fresh_next, slots_end}
@@ -29,13 +29,13 @@ returns : tie.Need-returns invariant-loop decreases-loop
 returns c =
     let at-loop = c.before.before.before.before in
     let args = at-loop.before.args in
-    sym (at-loop.loop.invariant.1.1 ∙ fresh_end args.t1 at-loop.loop.i (omega arith) args.number (not_true _ c.if1.true))
+    sym (at-loop.loop.invariant.1.1 ∙ fresh_end args.t1 at-loop.loop.i (omega arith) args.number (not-true _ c.if1.true))
 
 returns-2 : tie.Need-returns-2 invariant-loop decreases-loop
 returns-2 c =
     let at-loop = c.before.before.before.before.before.before in
     let args = at-loop.before.args in
-    sym (at-loop.loop.invariant.1.1 ∙ fresh_not args.t1 at-loop.loop.i (omega arith) args.number (not_false _ c.before.before.if1.false) c.if2.true)
+    sym (at-loop.loop.invariant.1.1 ∙ fresh_not args.t1 at-loop.loop.i (omega arith) args.number (not-false _ c.before.before.if1.false) c.if2.true)
 
 add-i : tie.Need-overflow-add-i invariant-loop decreases-loop
 add-i c = omega arith
@@ -47,7 +47,7 @@ loop-again : tie.Need-loop-preserved invariant-loop decreases-loop
 loop-again c =
     let at-loop = c.before.before.before.before.before.before in
     let args = at-loop.before.args in
-    (omega arith, (at-loop.loop.invariant.1.0, at-loop.loop.invariant.1.1 ∙ fresh_next args.t1 at-loop.loop.i (omega arith) args.number (not_false _ c.before.before.if1.false) c.if2.false))
+    (omega arith, (at-loop.loop.invariant.1.0, at-loop.loop.invariant.1.1 ∙ fresh_next args.t1 at-loop.loop.i (omega arith) args.number (not-false _ c.before.before.if1.false) c.if2.false))
 
 returns-3 : tie.Need-returns-3 invariant-loop decreases-loop
 returns-3 c =

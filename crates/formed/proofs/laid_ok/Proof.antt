@@ -2,10 +2,10 @@
 -- Assumes nothing.
 use Prim.Native.Nat.{ℕ, ◌+◌, ◌-◌, ◌*◌, ◌≤◌, ◌<◌}
 use mathlib.Core.Path.{◌≡◌, refl, sym, ap, ◌∙◌}
-use mathlib.Core.Bool.{true, and_true, and_false}
+use mathlib.Core.Bool.{true, and-true, and-false}
 use native.Mathlib.Omega.{arith}
 use borrow.Author.Rules.{rules}
-use borrow.Author.Tests.{not_true, not_false, lt-leb, le-leb, ne_eqb, eq-eqb}
+use borrow.Author.Tests.{not-true, not-false, lt-leb, le-leb, ne_eqb, eq-eqb}
 use lib.ListN.{length, drop, get_or}
 use Rattle.store.specs.Slots.{area_of, unused, no_slot}
 use Rattle.formed.specs.Tests.{laid_ok}
@@ -36,8 +36,8 @@ returns c =
     let i = at-loop.loop.i in
     let at = at-loop.loop.at in
     let here : i < length args.t2 = omega arith in
-    let free = not_true _ c.before.if1.true in
-    sym (at-loop.loop.invariant.1.1.1 ∙ laid_unheld args.t2 i here args.kind args.size at free ∙ rw (lt-leb at args.size c.if2.true) (and_false (unused (drop i args.t2))))
+    let free = not-true _ c.before.if1.true in
+    sym (at-loop.loop.invariant.1.1.1 ∙ laid_unheld args.t2 i here args.kind args.size at free ∙ rw (lt-leb at args.size c.if2.true) (and-false (unused (drop i args.t2))))
 
 unused-from-requires : tie.Need-unused-from-requires invariant-loop decreases-loop
 unused-from-requires c κs = search rules
@@ -49,9 +49,9 @@ returns-2 c =
     let i = at-loop.loop.i in
     let at = at-loop.loop.at in
     let here : i < length args.t2 = omega arith in
-    let free = not_true _ c.before.before.if1.true in
+    let free = not-true _ c.before.before.if1.true in
     c.unused-from.ensures
-    ∙ sym (at-loop.loop.invariant.1.1.1 ∙ laid_unheld args.t2 i here args.kind args.size at free ∙ rw (le-leb at args.size c.before.if2.false) (and_true (unused (drop i args.t2))))
+    ∙ sym (at-loop.loop.invariant.1.1.1 ∙ laid_unheld args.t2 i here args.kind args.size at free ∙ rw (le-leb at args.size c.before.if2.false) (and-true (unused (drop i args.t2))))
 
 sides-ok-requires : tie.Need-sides-ok-requires invariant-loop decreases-loop
 sides-ok-requires c κs = search rules
@@ -63,8 +63,8 @@ returns-3 c =
     let i = at-loop.loop.i in
     let at = at-loop.loop.at in
     let here : i < length args.t2 = omega arith in
-    let held : (get_or args.t2 i no_slot).held ≡ true = not_false _ c.before.before.if1.false in
-    let sides = sym c.before.sides-ok.ensures ∙ not_true _ c.if3.true in
+    let held : (get_or args.t2 i no_slot).held ≡ true = not-false _ c.before.before.if1.false in
+    let sides = sym c.before.sides-ok.ensures ∙ not-true _ c.if3.true in
     sym (at-loop.loop.invariant.1.1.1 ∙ laid_no args.t2 i here args.kind args.size at held (rw (sides)))
 
 cast-if4 : tie.Need-overflow-cast-if4 invariant-loop decreases-loop
@@ -77,8 +77,8 @@ returns-4 c =
     let i = at-loop.loop.i in
     let at = at-loop.loop.at in
     let here : i < length args.t2 = omega arith in
-    let held : (get_or args.t2 i no_slot).held ≡ true = not_false _ c.before.before.before.before.if1.false in
-    let sides = sym c.before.before.before.sides-ok.ensures ∙ not_false _ c.before.before.if3.false in
+    let held : (get_or args.t2 i no_slot).held ≡ true = not-false _ c.before.before.before.before.if1.false in
+    let sides = sym c.before.before.before.sides-ok.ensures ∙ not-false _ c.before.before.if3.false in
     sym (at-loop.loop.invariant.1.1.1 ∙ laid_no args.t2 i here args.kind args.size at held (rw (sides, ne_eqb (get_or args.t2 i no_slot).start at c.if4.true)))
 
 area-requires : tie.Need-area-requires invariant-loop decreases-loop
@@ -98,8 +98,8 @@ passed c =
     let i = at-loop.loop.i in
     let at = at-loop.loop.at in
     let here : i < length args.t2 = omega arith in
-    let held : (get_or args.t2 i no_slot).held ≡ true = not_false _ c.before.before.before.before.before.if1.false in
-    let sides = sym c.before.before.before.before.sides-ok.ensures ∙ not_false _ c.before.before.before.if3.false in
+    let held : (get_or args.t2 i no_slot).held ≡ true = not-false _ c.before.before.before.before.before.if1.false in
+    let sides = sym c.before.before.before.before.sides-ok.ensures ∙ not-false _ c.before.before.before.if3.false in
     let start = c.before.if4.false in (
       area-most args.kind (get_or args.t2 i no_slot).width (get_or args.t2 i no_slot).height sides,
       laid_next args.t2 i here args.kind args.size at held sides start,

@@ -6,7 +6,7 @@ use mathlib.Core.Bool.{true, false}
 use mathlib.Core.Logic.{⊎_elim}
 use native.Mathlib.Omega.{arith}
 use borrow.Author.Rules.{rules}
-use borrow.Author.Tests.{not_true, not_false}
+use borrow.Author.Tests.{not-true, not-false}
 use lib.ListN.{length, drop, get_or, length-set, length-map}
 use Rattle.store.specs.Slots.{no_slot, fresh}
 use Rattle.formed.specs.Tests.{differ, number_of, hits}
@@ -81,9 +81,9 @@ loop-again c =
           simp length-set (omega arith),
           (
             ⊎_elim
-                (λ a. a.6 ∙ differ_not ss i j next here held (here_on ∙ sym a.4.ensures ∙ not_true _ a.5.taken))
+                (λ a. a.6 ∙ differ_not ss i j next here held (here_on ∙ sym a.4.ensures ∙ not-true _ a.5.taken))
                 (⊎_elim
-                (λ a. a.6 ∙ inv.1.1.1.0 ∙ differ_same ss i j next here held (here_on ∙ sym a.4.ensures ∙ not_false _ a.5.left))
+                (λ a. a.6 ∙ inv.1.1.1.0 ∙ differ_same ss i j next here held (here_on ∙ sym a.4.ensures ∙ not-false _ a.5.left))
                 (⊎_elim
                 (λ a. a.4 ∙ inv.1.1.1.0 ∙ differ_same ss i j next here held (once_fresh ss i j next here (omega (arith, a.3.left, a.2.ensures, ap (hits number) all))))
                 (λ a. a.1 ∙ inv.1.1.1.0 ∙ differ_same ss i j next here held (inv.1.1.1.1 number a.0.left))))

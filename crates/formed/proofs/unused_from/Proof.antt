@@ -5,7 +5,7 @@ use mathlib.Core.Path.{◌≡◌, refl, sym, ap, ◌∙◌}
 use native.Mathlib.Omega.{arith}
 use borrow.Author.Rules.{rules}
 use lib.ListN.{length, drop}
-use borrow.Author.Tests.{not_true, not_false}
+use borrow.Author.Tests.{not-true, not-false}
 use Rattle.store.specs.Slots.{unused}
 use Rattle.store.proofs.Walk.{unused-is, slots_end}
 use Rattle.formed.proofs.unused_from.Statement.{statement}
@@ -33,7 +33,7 @@ returns : tie.Need-returns invariant-loop decreases-loop
 returns c =
     let at-loop = c.before.before.before.before in
     let args = at-loop.before.args in
-    let not_zero = sym c.before.zero-slot.ensures ∙ not_true _ c.if1.true in
+    let not_zero = sym c.before.zero-slot.ensures ∙ not-true _ c.if1.true in
     sym (at-loop.loop.invariant.1.1 ∙ unused-is args.t1 at-loop.loop.i (omega arith) ∙ rw not_zero)
 
 add-i : tie.Need-overflow-add-i invariant-loop decreases-loop
@@ -46,7 +46,7 @@ loop-again : tie.Need-loop-preserved invariant-loop decreases-loop
 loop-again c =
     let at-loop = c.before.before.before.before in
     let args = at-loop.before.args in
-    let zero = sym c.before.zero-slot.ensures ∙ not_false _ c.if1.false in
+    let zero = sym c.before.zero-slot.ensures ∙ not-false _ c.if1.false in
     (omega arith, (at-loop.loop.invariant.1.0, at-loop.loop.invariant.1.1 ∙ unused-is args.t1 at-loop.loop.i (omega arith) ∙ rw zero))
 
 returns-2 : tie.Need-returns-2 invariant-loop decreases-loop

@@ -5,7 +5,7 @@ use mathlib.Core.Bool.{true, false}
 use mathlib.Core.List.{List}
 use native.Mathlib.Omega.{arith}
 use borrow.Author.Rules.{rules}
-use borrow.Author.Tests.{not_true, not_false}
+use borrow.Author.Tests.{not-true, not-false}
 use lib.Ieee.Scale.{finite}
 use Rattle.verdict.specs.declared.Reason.TheVariants.{NotFinite}
 use Rattle.verdict.specs.declared.Verdict.TheVariants.{Done, Refused}
@@ -60,7 +60,7 @@ cast-t12 c = omega arith
 returns : tie.Need-returns invariant-loop decreases-loop
 returns c =
     let loop = c.before.before.before.before in
-    let e = sym c.before.finite_bits.ensures ∙ not_true c.before.finite_bits.result c.if1.true in
+    let e = sym c.before.finite_bits.ensures ∙ not-true c.before.finite_bits.result c.if1.true in
     sym (loop.loop.invariant.2 ∙ found loop.before.before.args.p.now loop.loop.i _ (omega arith) e)
 
 add-i : tie.Need-overflow-add-i invariant-loop decreases-loop
@@ -72,7 +72,7 @@ loop-less c = omega arith
 loop-again : tie.Need-loop-preserved invariant-loop decreases-loop
 loop-again c =
     let loop = c.before.before.before.before in
-    let e = sym c.before.finite_bits.ensures ∙ not_false c.before.finite_bits.result c.if1.false in
+    let e = sym c.before.finite_bits.ensures ∙ not-false c.before.finite_bits.result c.if1.false in
     (omega arith, loop.loop.invariant.1, loop.loop.invariant.2 ∙ passed loop.before.before.args.p.now loop.loop.i _ (omega arith) e)
 
 returns-2 : tie.Need-returns-2 invariant-loop decreases-loop

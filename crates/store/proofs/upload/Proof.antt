@@ -4,7 +4,7 @@ use mathlib.Core.Path.{◌≡◌, sym, ap, ◌∙◌}
 use mathlib.Core.Bool.{true}
 use native.Mathlib.Omega.{arith}
 use borrow.Author.Rules.{rules}
-use borrow.Author.Tests.{not_true, not_false}
+use borrow.Author.Tests.{not-true, not-false}
 use lib.ListN.{length}
 use Rattle.store.specs.Uploads.{total, most_words}
 use Rattle.store.specs.Slots.{told, is_fits, slots_after}
@@ -22,7 +22,7 @@ fits c = omega (arith, (ok_formed c.args.kind (length c.args.store.now) c.args.s
 
 -- it has room
 accepted : (c : tie.Else1) → is_fits c.before.before.room_for.result ≡ true
-accepted c = sym c.before.fits2.ensures ∙ not_false _ c.if1.false
+accepted c = sym c.before.fits2.ensures ∙ not-false _ c.if1.false
 
 space_at : (c : tie.Else1)
     → let args = c.before.before.before.before.before.args in
@@ -45,7 +45,7 @@ fits-requires c κs = search rules
 
 returns : tie.Need-returns
 returns c =
-    let no = sym c.before.fits2.ensures ∙ not_true _ c.if1.true in
+    let no = sym c.before.fits2.ensures ∙ not-true _ c.if1.true in
     record { answer = c.before.before.room_for.ensures; slots = rw no; words = rw no }
 
 put-requires : tie.Need-put-requires

@@ -1,6 +1,6 @@
 -- `store_test::upload` meets what `store::upload` asks: it has just tested all of it. Assumes nothing.
 use mathlib.Core.Path.{sym, ◌∙◌}
-use borrow.Author.Tests.{not_false}
+use borrow.Author.Tests.{not-false}
 use native.Mathlib.Omega.{arith}
 use borrow.Author.Rules.{rules}
 use Rattle.store_test.proofs.upload.Statement.{statement}
@@ -44,8 +44,8 @@ returns-3 c = search rules
 
 upload-requires : tie.Need-upload-requires
 upload-requires c κs = (
-  sym c.before.before.before.before.before.before.slots-ok.ensures ∙ not_false _ c.before.before.before.before.before.if1.false,
-  (omega arith, (sym c.before.before.before.before.sides-ok.ensures ∙ not_false _ c.before.before.before.if2.false, c.before.if3.false ∙ c.before.before.area.ensures)),
+  sym c.before.before.before.before.before.before.slots-ok.ensures ∙ not-false _ c.before.before.before.before.before.if1.false,
+  (omega arith, (sym c.before.before.before.before.sides-ok.ensures ∙ not-false _ c.before.before.before.if2.false, c.before.if3.false ∙ c.before.before.area.ensures)),
 )
 
 report-requires : tie.Need-report-requires

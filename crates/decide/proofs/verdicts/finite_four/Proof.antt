@@ -1,6 +1,6 @@
 -- Each component that is not finite ends it. Assumes nothing.
 use borrow.Author.Rules.{rules}
-use borrow.Author.Tests.{not_true, not_false}
+use borrow.Author.Tests.{not-true, not-false}
 use mathlib.Core.Path.{◌≡◌, sym, ◌∙◌}
 use mathlib.Core.Bool.{Bool, true, false, not}
 use mathlib.Core.List.{List}
@@ -12,10 +12,10 @@ use Rattle.decide.proofs.verdicts.finite_four.Statement.{statement}
 use Rattle.decide.proofs.verdicts.finite_four.Tie as tie
 
 holds : {r b : Bool} → r ≡ b → not r ≡ false → b ≡ true
-holds {r} e h = sym e ∙ not_false r h
+holds {r} e h = sym e ∙ not-false r h
 
 fails : {r b : Bool} → r ≡ b → not r ≡ true → b ≡ false
-fails {r} e h = sym e ∙ not_true r h
+fails {r} e h = sym e ∙ not-true r h
 
 last : (v : List Float) → finite (at v 0) ≡ true → finite (at v 1) ≡ true → finite (at v 2) ≡ true → finite (at v 3) ≡ finite4 v
 unfolding finite4

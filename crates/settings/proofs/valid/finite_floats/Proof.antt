@@ -3,7 +3,7 @@ use Prim.Native.Nat.{◌-◌, ◌≤◌}
 use mathlib.Core.Path.{◌≡◌, refl, sym, ◌∙◌}
 use native.Mathlib.Omega.{arith}
 use borrow.Author.Rules.{rules}
-use borrow.Author.Tests.{not_true, not_false}
+use borrow.Author.Tests.{not-true, not-false}
 use lib.ListN.{length, drop}
 use lib.Ieee.Scale.{finite}
 use Rattle.settings.specs.Settings.{finite_list}
@@ -32,7 +32,7 @@ is-finite-requires c κs = search rules
 returns : tie.Need-returns invariant-loop decreases-loop
 returns c =
     let loop = c.before.before.before.before in
-    let e = sym c.before.is_finite.ensures ∙ not_true c.before.is_finite.result c.if1.true in
+    let e = sym c.before.is_finite.ensures ∙ not-true c.before.is_finite.result c.if1.true in
     sym (loop.loop.invariant.1 ∙ all_found finite loop.before.before.args.x.now loop.loop.i _ (omega arith) e)
 
 add-i : tie.Need-overflow-add-i invariant-loop decreases-loop
@@ -44,7 +44,7 @@ loop-less c = omega arith
 loop-again : tie.Need-loop-preserved invariant-loop decreases-loop
 loop-again c =
     let loop = c.before.before.before.before in
-    let e = sym c.before.is_finite.ensures ∙ not_false c.before.is_finite.result c.if1.false in
+    let e = sym c.before.is_finite.ensures ∙ not-false c.before.is_finite.result c.if1.false in
     (omega arith, loop.loop.invariant.1 ∙ all_passed finite loop.before.before.args.x.now loop.loop.i _ (omega arith) e)
 
 returns-2 : tie.Need-returns-2 invariant-loop decreases-loop

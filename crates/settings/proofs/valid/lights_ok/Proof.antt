@@ -3,7 +3,7 @@ use Prim.Native.Nat.{◌-◌, ◌≤◌}
 use mathlib.Core.Path.{◌≡◌, refl, sym, ◌∙◌}
 use native.Mathlib.Omega.{arith}
 use borrow.Author.Rules.{rules}
-use borrow.Author.Tests.{not_true, not_false}
+use borrow.Author.Tests.{not-true, not-false}
 use lib.ListN.{length, drop}
 use Rattle.settings.specs.Settings.{light_ok, lights_ok}
 use Rattle.settings.proofs.All.{all_passed, all_found, all_end}
@@ -31,7 +31,7 @@ light-ok-requires c κs = search rules
 returns : tie.Need-returns invariant-loop decreases-loop
 returns c =
     let loop = c.before.before.before.before in
-    let e = sym c.before.light_ok_lem.ensures ∙ not_true c.before.light_ok_lem.result c.if1.true in
+    let e = sym c.before.light_ok_lem.ensures ∙ not-true c.before.light_ok_lem.result c.if1.true in
     sym (loop.loop.invariant.2 ∙ all_found light_ok loop.before.args.t1 loop.loop.i _ (omega arith) e)
 
 add-i : tie.Need-overflow-add-i invariant-loop decreases-loop
@@ -43,7 +43,7 @@ loop-less c = omega arith
 loop-again : tie.Need-loop-preserved invariant-loop decreases-loop
 loop-again c =
     let loop = c.before.before.before.before in
-    let e = sym c.before.light_ok_lem.ensures ∙ not_false c.before.light_ok_lem.result c.if1.false in
+    let e = sym c.before.light_ok_lem.ensures ∙ not-false c.before.light_ok_lem.result c.if1.false in
     (omega arith, loop.loop.invariant.1, loop.loop.invariant.2 ∙ all_passed light_ok loop.before.args.t1 loop.loop.i _ (omega arith) e)
 
 returns-2 : tie.Need-returns-2 invariant-loop decreases-loop

@@ -1,6 +1,6 @@
 -- The determinant and the corner are the definition's by what the calls ensure, and each way out is what `cond` picks. Assumes nothing.
 use mathlib.Core.Path.{◌≡◌, sym, ap, ◌∙◌}
-use mathlib.Core.Bool.{true, false, and_false}
+use mathlib.Core.Bool.{true, false, and-false}
 use lib.Ieee.{Float}
 use lib.Ieee.Scale.{finite}
 use Rattle.ieee.specs.Units.{one32}
@@ -16,7 +16,7 @@ use Rattle.vector.proofs.normal.inverse_transpose_3x3.Tie as tie
 module _ (det : Float) (m : Matrix3) where
   singular : tiny_of det ≡ true → Singular ≡ inverse_by det m
   unfolding inverse_by
-  singular h = simp (h, and_false (finite det))
+  singular h = simp (h, and-false (finite det))
 
   endless : finite det ≡ false → Singular ≡ inverse_by det m
   unfolding inverse_by
