@@ -1,6 +1,8 @@
 // The thirteen cases, malformed states clause by clause, lent lengths one off and pixel
 // reads, on the compiled calls: the table on standard input, whose head says how a line is read.
 // What is in `stdout` was written by hand, from the rules.
+#![tactic(auto)]
+
 mod ask;
 mod lend;
 

@@ -1,1 +1,2 @@
 // What was promised, as theorems. This crate has no code.
+#![tactic(auto)]

@@ -8,7 +8,7 @@ use crate::vertex::{ClipVertex, clip_distance, mix_vertex};
 // What six planes can make of three vertices, however the distances round.
 pub const ROOM: usize = 28;
 
-#[derive(Drop)]
+#[derive(Clone, Copy)]
 pub struct Polygon {
     pub vertices: [ClipVertex; ROOM],
     pub count: usize,

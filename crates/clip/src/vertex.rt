@@ -2,7 +2,7 @@
 ghost use Rattle.std.specs.Prelude.{◌≡◌};
 ghost use Rattle.clip.specs.Vertices.{distance_of, mix2_of, mix3_of, mix4_of, mix_vertex};
 
-#[derive(Drop)]
+#[derive(Clone, Copy)]
 pub struct ClipVertex {
     pub position: [f32; 4],
     pub view_position: [f32; 3],

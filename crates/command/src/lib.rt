@@ -1,11 +1,13 @@
 // What a command is, by its opcode: the one place that tells opcodes apart (rule 3.1).
+#![tactic(auto)]
+
 ghost use Rattle.std.specs.Prelude.{◌≡◌};
 ghost use Rattle.command.specs.Command.{command_of, setting_words, draw_words};
 
 use store::Kind;
 
 // What a command sets: shading mode and lighting, a matrix, a light.
-#[derive(Drop)]
+#[derive(Clone, Copy)]
 pub enum Setting {
     Mode,
     Matrix,
@@ -13,7 +15,7 @@ pub enum Setting {
 }
 
 // What a command paints. `has_normal`: each vertex comes with one.
-#[derive(Drop)]
+#[derive(Clone, Copy)]
 pub enum Draw {
     Clear,
     Sprite,
@@ -23,7 +25,7 @@ pub enum Draw {
     Model,
 }
 
-#[derive(Drop)]
+#[derive(Clone, Copy)]
 pub enum Command {
     Sets(Setting),
     Loads(Kind),

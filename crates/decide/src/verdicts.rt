@@ -91,7 +91,7 @@ fn plain_vertex(p: &[u32], v: ClipVertex, o: usize) -> Verdict
 
 // A verdict, with the corners that are to be lit and painted if it is "done"; if not, nobody reads
 // them.
-#[derive(Drop)]
+#[derive(Clone, Copy)]
 pub struct Checked {
     pub verdict: Verdict,
     pub corners: [ClipVertex; 3],

@@ -1,5 +1,7 @@
 // FNV-1a digests of 64 bits, for programs that print what a buffer holds: of bytes, and of words,
 // i32 and f32 as four bytes each, the lowest first.
+#![tactic(auto)]
+
 ghost use Rattle.std.specs.Prelude.{◌≡◌, ◌*◌, ◌%◌, ◌^◌};
 ghost use Rattle.std.specs.Int.{w32};
 ghost use Rattle.std.proofs.Common.{of_z};

@@ -1,5 +1,7 @@
 // The float draws whole: 14, 16, 18, 19 and 1B. Each is decided first (`decide`, `judge`), and what
 // is accepted is lit and painted (`stroke`).
+#![tactic(auto)]
+
 ghost use Rattle.std.specs.Prelude.{◌≡◌, true, false, ◌+◌, ◌*◌, ◌≤◌, length, get_or};
 ghost use Rattle.screen.specs.Plane.{plane_bytes};
 ghost use Rattle.screen.specs.Draw.{pixels};

@@ -1,5 +1,7 @@
 // The command whose payload is complete: what it is (`command`), and what it does. One that sets is
 // lent the command area, one that loads the stores too, and one that paints (`paint`) the picture.
+#![tactic(auto)]
+
 pub mod clear;
 pub mod paint;
 pub mod set;

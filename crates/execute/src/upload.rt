@@ -11,7 +11,7 @@ use store::{Kind, Room, SLOTS, Slot};
 use verdict::{Reason, Verdict, out_of_range, wrong_length};
 
 // What an upload comes to, and the slots after it.
-#[derive(Drop)]
+#[derive(Clone, Copy)]
 pub struct Kept {
     pub verdict: Verdict,
     pub slots: [Slot; SLOTS],

@@ -1,5 +1,7 @@
 // A float triangle on the screen, up to its depths: what both float rasterisers of the original
 // share. Its corners, its area, the box that is looked at, and its edges along a row.
+#![tactic(auto)]
+
 ghost use Rattle.std.specs.Prelude.{◌≡◌, ◌+◌, ◌<◌, ◌≤◌, min, max};
 ghost use Rattle.screen.specs.Plane.{width, height};
 ghost use Rattle.face.specs.Face.{behind_of, inverse_of, point_of, edge_of, min_of, past_of, bounds_of, face_of, setup_of, OnScreen};
@@ -9,7 +11,7 @@ ghost use Rattle.face.specs.Row.{line_of, on_line, edges_of};
 use clip::vertex::ClipVertex;
 
 // A number for each corner.
-#[derive(Drop)]
+#[derive(Clone, Copy)]
 pub struct Corners {
     pub c0: f32,
     pub c1: f32,
@@ -17,14 +19,14 @@ pub struct Corners {
 }
 
 // A place on the screen, in pixels.
-#[derive(Drop)]
+#[derive(Clone, Copy)]
 pub struct Point {
     pub x: f32,
     pub y: f32,
 }
 
 // The original's `min_x`, `max_x + 1`, `min_y` and `max_y + 1`.
-#[derive(Drop)]
+#[derive(Clone, Copy)]
 pub struct Bounds {
     pub left: usize,
     pub right: usize,
@@ -33,7 +35,7 @@ pub struct Bounds {
 }
 
 // What the set-up works out: the corners a, b and c, and 1 / w and the depth of each.
-#[derive(Drop)]
+#[derive(Clone, Copy)]
 pub struct Face {
     pub a: Point,
     pub b: Point,
@@ -44,7 +46,7 @@ pub struct Face {
     pub bounds: Bounds,
 }
 
-#[derive(Drop)]
+#[derive(Clone, Copy)]
 pub enum Setup {
     Drawn(Face),
     Nothing,
@@ -226,7 +228,7 @@ pub fn centre(n: usize) -> f32
 }
 
 // An edge along a row: at px it is (px - x) * rise - base, in the source's order.
-#[derive(Drop)]
+#[derive(Clone, Copy)]
 pub struct Line {
     pub x: f32,
     pub rise: f32,
@@ -250,7 +252,7 @@ pub fn at_column(line: Line, px: f32) -> f32
 }
 
 // The three edges along a row, each named after the corner that it faces.
-#[derive(Drop)]
+#[derive(Clone, Copy)]
 pub struct Edges {
     pub w0: Line,
     pub w1: Line,

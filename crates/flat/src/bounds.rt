@@ -9,7 +9,7 @@ use crate::tri::Tri;
 use screen::plane::{VPU_HEIGHT, VPU_WIDTH};
 
 // The original's `min_x`, `max_x + 1`, `min_y` and `max_y + 1`.
-#[derive(Drop)]
+#[derive(Clone, Copy)]
 pub struct Bounds {
     pub left: usize,
     pub right: usize,

@@ -23,7 +23,7 @@ pub fn area_of(t: Tri) -> i64
 }
 
 // An edge along a row: at the column x it is x * rise - base.
-#[derive(Drop)]
+#[derive(Clone, Copy)]
 pub struct Line {
     pub rise: i64,
     pub base: i64,
@@ -48,7 +48,7 @@ pub fn at_column(line: Line, x: usize) -> i64
 }
 
 // The three edges along a row, each named after the corner that it faces.
-#[derive(Drop)]
+#[derive(Clone, Copy)]
 pub struct Edges {
     pub w0: Line,
     pub w1: Line,

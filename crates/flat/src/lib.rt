@@ -1,5 +1,7 @@
 // Flat triangles, command 12: section 4 of docs/RULES.md; `draw_flat_triangle` of the original.
 // What the words say and whether they are refused (`tri`) is apart from painting (`draw`).
+#![tactic(auto)]
+
 ghost use Rattle.std.specs.Prelude.{◌≡◌, length};
 ghost use Rattle.screen.specs.Plane.{plane_bytes};
 ghost use Rattle.screen.specs.Draw.{pixels};

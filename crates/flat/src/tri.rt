@@ -11,7 +11,7 @@ use verdict::{Verdict, out_of_range};
 const FLAT_REACH: i64 = 8192;
 
 // Three corners with their depths, and the colour after shading.
-#[derive(Drop)]
+#[derive(Clone, Copy)]
 pub struct Tri {
     pub x0: i64,
     pub y0: i64,

@@ -1,4 +1,6 @@
 // Is a store well formed? Decided from the slots and the store's length.
+#![tactic(auto)]
+
 ghost use Rattle.std.specs.Prelude.{◌≡◌, ◌≤◌, map, length, drop};
 ghost use Rattle.store.specs.Uploads.{slot_count};
 ghost use Rattle.store.specs.Slots.{sides_ok, slots_ok, fresh, zero_slot, unused};

@@ -1,5 +1,7 @@
 // The framing's four numbers, apart from the rest of the state: a payload word changes them and
 // nothing else of the state.
+#![tactic(auto)]
+
 ghost use Rattle.std.specs.Prelude.{◌≡◌, ◌+◌, ◌≤◌, length};
 ghost use Rattle.std.proofs.Math.Seq.{paste};
 ghost use Rattle.framing.specs.Frames.{frame_of, with_frame, dropped_frame, ended_frame, header_frame, word_frame, word_area, ready_of, between_of, gathered_frame};
@@ -8,7 +10,7 @@ ghost use Rattle.state.specs.State.{most_payload};
 use state::{MAX_COMMAND_WORDS, State};
 use verdict::{Notes, Reason, Verdict};
 
-#[derive(Drop)]
+#[derive(Clone, Copy)]
 pub struct Frame {
     pub opcode: u32,
     pub gathered: u32,

@@ -1,5 +1,7 @@
 // The leaves and the four operations for C, so that a test can run them on any pattern: each export
 // calls one leaf or has one operation.
+#![tactic(auto)]
+
 ghost use Rattle.std.specs.Prelude.{◌≡◌, ◌^◌, ◌≤◌, ◌<◌};
 ghost use Rattle.std.specs.Float.{binary32};
 ghost use Rattle.std.specs.Float.Ieee.{of_bits, to_bits, add, sub, mul, div};

@@ -1,6 +1,8 @@
 // Runs each leaf of `ieee` on the patterns of standard input, little-endian words, and prints a
 // line for it: its name, and the digest of its answers. oracle/floats.py wrote the input and the
 // lines.
+#![tactic(auto)]
+
 ghost use Rattle.std.specs.Prelude.{◌+◌, ◌*◌, ◌≤◌, length};
 
 use libc::{STDIN_FILENO, STDOUT_FILENO};

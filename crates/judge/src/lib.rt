@@ -1,5 +1,7 @@
 // The float draws that ask for an upload, decided: 18, 19 and 1B, from words, matrices and slots.
 // Nothing here sees a texel, the plane or a depth, and nothing is lit.
+#![tactic(auto)]
+
 pub mod model;
 
 ghost use Rattle.std.specs.Prelude.{◌≡◌, true, ◌≤◌, length, get_or};
@@ -18,7 +20,7 @@ use vector::normal::Inverse;
 use verdict::{Verdict, not_held};
 
 // What the mode and the number come to, and the slot under the number.
-#[derive(Drop)]
+#[derive(Clone, Copy)]
 pub struct Named {
     pub verdict: Verdict,
     pub slot: Slot,
@@ -52,7 +54,7 @@ pub fn mode_and_number(p: &[u32], slots: [Slot; SLOTS]) -> Named
 
 // A verdict, with what is to be lit and painted if it is "done": the corners, and the texture's
 // slot. If not, nobody reads them.
-#[derive(Drop)]
+#[derive(Clone, Copy)]
 pub struct Judged {
     pub verdict: Verdict,
     pub slot: Slot,

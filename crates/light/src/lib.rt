@@ -1,11 +1,13 @@
 // Lights, and what they make of a corner's colour.
+#![tactic(auto)]
+
 ghost use Rattle.std.specs.Prelude.{◌≡◌, ◌<◌};
 ghost use Rattle.vector.specs.Three.{at};
 ghost use Rattle.light.specs.Light.{disabled, view_of, to_light_of, shine_of, term_of, added_of, with_alpha, shade_of, shade_each};
 
 use vector::three::{dot, normalize};
 
-#[derive(Drop)]
+#[derive(Clone, Copy)]
 pub struct Light {
     pub enabled: bool,
     pub ambient: [f32; 3],

@@ -1,4 +1,6 @@
 // What lighting makes of the three corners.
+#![tactic(auto)]
+
 ghost use Rattle.std.specs.Prelude.{◌≡◌};
 ghost use Rattle.lit.specs.Lit.{with_color, shaded_by, lit_each, mean_normal, one_color, own_lit, each_lit, edge_of, cross_of, face_normal, face_lit, transformed_lit, textured_lit};
 

@@ -1,4 +1,6 @@
 // What the words of a payload say, read as floats and as colours.
+#![tactic(auto)]
+
 ghost use Rattle.std.specs.Prelude.{◌≡◌, ◌+◌, ◌≤◌, ◌<◌, length};
 ghost use Rattle.payload.specs.Words.{three_at, at_most, finite_from, color_of};
 

@@ -1,5 +1,7 @@
 // What a host in C hands over and is given, as plain data: the state, whose switches are bytes, and
 // a pixel.
+#![tactic(auto)]
+
 ghost use Rattle.std.specs.Prelude.{◌≡◌, map};
 ghost use Rattle.screen.specs.Plane.{answered};
 ghost use Rattle.settings.specs.Settings.{all_of};
@@ -13,7 +15,7 @@ use store::{SLOTS, Slot};
 use verdict::Notes;
 
 #[repr(C)]
-#[derive(Drop)]
+#[derive(Clone, Copy)]
 pub struct VpuLight {
     pub enabled: u8,
     pub ambient: [f32; 3],
@@ -35,7 +37,7 @@ impl VpuLight {
 }
 
 #[repr(C)]
-#[derive(Drop)]
+#[derive(Clone, Copy)]
 pub struct VpuSlot {
     pub held: u8,
     pub number: u32,
@@ -55,7 +57,7 @@ impl VpuSlot {
 }
 
 #[repr(C)]
-#[derive(Drop)]
+#[derive(Clone, Copy)]
 pub struct VpuState {
     pub matrices: [f32; 48],
     pub shading_mode: u32,
@@ -70,7 +72,7 @@ pub struct VpuState {
 }
 
 #[repr(C)]
-#[derive(Drop)]
+#[derive(Clone, Copy)]
 pub struct VpuColour {
     pub answer: u32,
     pub r: u8,

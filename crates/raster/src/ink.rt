@@ -8,7 +8,7 @@ use ieee::number::unit_float;
 use screen::plane::Rgba;
 
 // An interpolated colour, or a flat one.
-#[derive(Drop)]
+#[derive(Clone, Copy)]
 pub struct Color {
     pub r: f32,
     pub g: f32,
@@ -17,7 +17,7 @@ pub struct Color {
 }
 
 // The corners' colours, channel by channel.
-#[derive(Drop)]
+#[derive(Clone, Copy)]
 pub struct Colors {
     pub r: Corners,
     pub g: Corners,
@@ -26,7 +26,7 @@ pub struct Colors {
 }
 
 // A texture's sides, and where the corners are in it.
-#[derive(Drop)]
+#[derive(Clone, Copy)]
 pub struct Sampler {
     pub width: u32,
     pub height: u32,
@@ -35,7 +35,7 @@ pub struct Sampler {
 }
 
 // What a texel is multiplied by, in modes 0, 1 and 2: nothing, a flat colour, an interpolated one.
-#[derive(Drop)]
+#[derive(Clone, Copy)]
 pub enum Tone {
     Plain,
     Tinted(Color),
@@ -43,7 +43,7 @@ pub enum Tone {
 }
 
 // The words of a texture go beside it.
-#[derive(Drop)]
+#[derive(Clone, Copy)]
 pub enum Ink {
     Flat(Rgba),
     // divided by w
@@ -52,7 +52,7 @@ pub enum Ink {
 }
 
 // What an ink gives at a pixel.
-#[derive(Drop)]
+#[derive(Clone, Copy)]
 pub enum Shade {
     Blank,
     Of(Rgba),

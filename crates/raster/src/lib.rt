@@ -1,6 +1,8 @@
 // The float rasterisers: `rasterize_transformed_triangle` and `rasterize_textured_triangle` of the
 // original. A triangle is set up by the crate `face`; its pixels are painted (`rows`) with an ink
 // (`ink`).
+#![tactic(auto)]
+
 ghost use Rattle.std.specs.Prelude.{◌≡◌, length};
 ghost use Rattle.screen.specs.Plane.{plane_bytes};
 ghost use Rattle.screen.specs.Draw.{pixels};
@@ -14,7 +16,7 @@ pub mod ink;
 mod rows;
 
 // The original's `Option<[f32; 4]>`.
-#[derive(Drop)]
+#[derive(Clone, Copy)]
 pub enum Flat {
     Some(Color),
     None,

@@ -5,7 +5,7 @@ use libc::STDOUT_FILENO;
 use vpu::{Answer, Fed};
 
 // How the words are cut into calls.
-#[derive(Drop)]
+#[derive(Clone, Copy)]
 pub enum Cut {
     // By the counts that are before the words, with a line after each call.
     Counted,
@@ -64,7 +64,7 @@ fn at_end(cut: Cut, fed: Fed, plane: &[u8], depth: &[i32], depth_f32: &[f32]) {
 }
 
 // Where a call's words begin, and where they end.
-#[derive(Drop)]
+#[derive(Clone, Copy)]
 struct Span {
     from: usize,
     end: usize,

@@ -3,6 +3,8 @@
 // run, and at the end of the others, it prints the answer, the status, and digests of the plane and
 // of both depths.
 // A stream is a name of 24 bytes, a count, and as many words: for each call a count and its words.
+#![tactic(auto)]
+
 mod machine;
 mod tape;
 

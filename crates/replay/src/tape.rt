@@ -5,7 +5,7 @@ ghost use Rattle.io.specs.Counts.{IsPrefixLen};
 use libc::STDOUT_FILENO;
 
 // A word of the file, and whether the file had one.
-#[derive(Drop)]
+#[derive(Clone, Copy)]
 struct Word {
     there: bool,
     word: u32,

@@ -1,5 +1,7 @@
 // The loop over the words. Payload is copied in runs. In the state it changes only the framing's
 // four numbers, and so do commands that paint. Those that set or load change the rest too.
+#![tactic(auto)]
+
 ghost use Rattle.std.specs.Prelude.{◌≡◌, true, ◌≤◌, length};
 ghost use Rattle.screen.specs.Plane.{plane_bytes};
 ghost use Rattle.screen.specs.Draw.{pixels};

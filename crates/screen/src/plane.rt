@@ -11,7 +11,7 @@ pub const PLANE_BYTES: usize = VPU_WIDTH * VPU_HEIGHT * 4;
 
 const ROW_BYTES: usize = VPU_WIDTH * 4;
 
-#[derive(Drop)]
+#[derive(Clone, Copy)]
 pub struct Rgba {
     pub r: u8,
     pub g: u8,
@@ -20,7 +20,7 @@ pub struct Rgba {
 }
 
 // What reading a pixel answers: its colour, or that the lent plane has a wrong length.
-#[derive(Drop)]
+#[derive(Clone, Copy)]
 pub enum Read {
     Colour(Rgba),
     WrongLength,

@@ -1,5 +1,7 @@
 // Replays what the original's screen does: all dither outcomes, and the pixels that fills leave.
 // Standard input has the colours, each as a word with red highest, the lowest byte first.
+#![tactic(auto)]
+
 ghost use Rattle.std.specs.Prelude.{◌≡◌, ◌+◌, ◌*◌, ◌<◌, ◌≤◌, length};
 ghost use Rattle.screen.specs.Plane.{plane_bytes};
 

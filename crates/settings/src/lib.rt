@@ -1,4 +1,6 @@
 // What the commands 01, 02 and 15 set, and every float draw reads.
+#![tactic(auto)]
+
 ghost use Rattle.std.specs.Prelude.{◌≡◌, ◌≤◌, length, get_or};
 ghost use Rattle.settings.specs.Settings.{fresh, changed, mode_verdict, with_mode, matrix_verdict, with_matrix, light_verdict, light_of, with_light};
 
@@ -7,7 +9,7 @@ use verdict::Verdict;
 
 pub mod valid;
 
-#[derive(Drop)]
+#[derive(Clone, Copy)]
 pub struct Settings {
     pub matrices: [f32; 48],
     pub shading_mode: u32,
@@ -16,7 +18,7 @@ pub struct Settings {
 }
 
 // What a command comes to, and the settings after it.
-#[derive(Drop)]
+#[derive(Clone, Copy)]
 pub struct Changed {
     pub verdict: Verdict,
     pub settings: Settings,

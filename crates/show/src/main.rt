@@ -1,6 +1,8 @@
 // Feeds the words of standard input to the machine, each four bytes with the lowest first, and
 // writes the plane to standard output as a PNG. What was refused is said on standard error, and the
 // picture is written all the same.
+#![tactic(auto)]
+
 mod picture;
 mod refusal;
 
@@ -14,7 +16,7 @@ const STORE: usize = 524288;
 const CHUNK: usize = 65536;
 
 // The state after a chunk, and whether the input goes on, or ended inside a word.
-#[derive(Drop)]
+#[derive(Clone, Copy)]
 struct Left {
     state: State,
     more: bool,

@@ -1,5 +1,7 @@
 // Flat sprites, command 10: section 11 of docs/RULES.md. A rectangle of a texture is copied to the
 // plane. What the words say and whether they are refused (`words`) is apart from painting (`draw`).
+#![tactic(auto)]
+
 ghost use Rattle.std.specs.Prelude.{◌≡◌, true, length, get_or};
 ghost use Rattle.screen.specs.Plane.{plane_bytes};
 ghost use Rattle.store.specs.Slots.{slots_ok, look_in};

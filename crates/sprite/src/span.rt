@@ -6,7 +6,7 @@ ghost use Rattle.screen.specs.Plane.{width};
 ghost use Rattle.sprite.specs.Spans.{spanned, Reached};
 
 // From `start` to `end`, where `start` is `skip` columns into the sprite.
-#[derive(Drop)]
+#[derive(Clone, Copy)]
 pub struct Span {
     pub start: usize,
     pub end: usize,

@@ -7,7 +7,7 @@ use flat::tri::{in_reach, signed};
 use verdict::{Verdict, out_of_range};
 
 // A rectangle of a texture that has `stride` texels in a row, and where it goes.
-#[derive(Drop)]
+#[derive(Clone, Copy)]
 pub struct Sprite {
     pub stride: usize,
     pub source_x: usize,

@@ -1,5 +1,7 @@
 // The machine's small state, which travels as one value; and whether a state that a host hands in
 // is well formed.
+#![tactic(auto)]
+
 ghost use Rattle.std.specs.Prelude.{◌≡◌};
 ghost use Rattle.state.specs.State.{fresh, begun_ok, well_formed};
 
@@ -12,7 +14,7 @@ pub const MAX_COMMAND_WORDS: u32 = 524291;
 
 // What the words so far have set, sent and begun. `gathered` words of the begun command are in the
 // command area, and `wanted` are missing.
-#[derive(Drop)]
+#[derive(Clone, Copy)]
 pub struct State {
     pub settings: Settings,
     pub textures: [Slot; SLOTS],

@@ -2,6 +2,8 @@
 // Section 8 of docs/RULES.md. What a store decides (room, slots afterwards) is in `slots` and needs
 // only the slots and the store's length; `words` moves the words. Whether a store is well formed is
 // tested in the crate `formed`.
+#![tactic(auto)]
+
 pub mod slots;
 pub mod words;
 
@@ -12,7 +14,7 @@ ghost use Rattle.store.specs.Slots.{area_of, sides_ok, no_slot, slots_ok, is_fit
 pub const SLOTS: usize = 64;
 
 // What a store holds.
-#[derive(Drop)]
+#[derive(Clone, Copy)]
 pub enum Kind {
     Texture,
     Model,
@@ -20,7 +22,7 @@ pub enum Kind {
 
 // One slot of a store. A model's count is in `width`, and its `height` is 0. An unused slot is
 // all zero.
-#[derive(Drop)]
+#[derive(Clone, Copy)]
 pub struct Slot {
     pub held: bool,
     pub number: u32,
@@ -46,14 +48,14 @@ impl Slot {
 }
 
 // What is held under a number.
-#[derive(Drop)]
+#[derive(Clone, Copy)]
 pub enum Found {
     At(Slot),
     Nothing,
 }
 
 // Whether an upload has room, and if not, what is missing.
-#[derive(Drop)]
+#[derive(Clone, Copy)]
 pub enum Room {
     Fits,
     NoSlot,
@@ -61,7 +63,7 @@ pub enum Room {
 }
 
 // What an upload answers, and the slots afterwards.
-#[derive(Drop)]
+#[derive(Clone, Copy)]
 pub struct Stored {
     pub room: Room,
     pub slots: [Slot; SLOTS],

@@ -45,7 +45,7 @@ fn keeps(s: Slot, number: u32) -> bool
 }
 
 // How many slots the other numbers hold, and how many words they take.
-#[derive(Drop)]
+#[derive(Clone, Copy)]
 pub struct Usage {
     pub count: usize,
     pub total: usize,
@@ -87,7 +87,7 @@ pub fn room_for(kind: Kind, slots: [Slot; SLOTS], size: usize, number: u32, word
 }
 
 // The uploads under other numbers, closed up.
-#[derive(Drop)]
+#[derive(Clone, Copy)]
 pub struct Left {
     pub slots: [Slot; SLOTS],
     pub count: usize,

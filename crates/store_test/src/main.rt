@@ -3,6 +3,8 @@
 // or 1 (model), number, width, height and a count are an upload, whose words follow; 2, a size and
 // three zeros begin a store of that size anew, every word of it `FILL`. `oracle/store_list.py`
 // writes both the input and what has to be printed.
+#![tactic(auto)]
+
 ghost use Rattle.std.specs.Prelude.{◌≡◌, ◌<◌, ◌≤◌, length};
 
 use libc::STDOUT_FILENO;
@@ -99,7 +101,7 @@ fn report(room: Room, slots: [Slot; SLOTS], words: &[u32]) {
 }
 
 // What passes from record to record: the slots, the store's size, and the next record's place.
-#[derive(Drop)]
+#[derive(Clone, Copy)]
 struct Next {
     slots: [Slot; SLOTS],
     size: usize,

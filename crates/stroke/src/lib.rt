@@ -1,4 +1,6 @@
 // A float triangle painted: clipped, cut into a fan, and each triangle of it rasterised.
+#![tactic(auto)]
+
 ghost use Rattle.std.specs.Prelude.{◌≡◌, ◌≤◌, length};
 ghost use Rattle.screen.specs.Plane.{plane_bytes};
 ghost use Rattle.screen.specs.Draw.{pixels};
@@ -11,7 +13,7 @@ use clip::vertex::ClipVertex;
 use raster::ink::Color;
 
 // How a texture is laid on: its sides, the mode of 18, 19 and 1B, and the flat colour of mode 1.
-#[derive(Drop)]
+#[derive(Clone, Copy)]
 pub struct Texture {
     pub width: u32,
     pub height: u32,
@@ -20,7 +22,7 @@ pub struct Texture {
 }
 
 // What a triangle is painted with. The words of a texture go beside it.
-#[derive(Drop)]
+#[derive(Clone, Copy)]
 pub enum Brush {
     Flat(Color),
     Blended,

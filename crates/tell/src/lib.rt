@@ -1,5 +1,7 @@
 // What a line of `cases`' table can ask, and what is written for it: about a call and what it left,
 // about a pixel that was read, and of functions inside the machine.
+#![tactic(auto)]
+
 mod inner;
 pub mod say;
 
@@ -11,7 +13,7 @@ use trial::{mark, same};
 
 // What a call answered, whether it left the state as it was, and what a line can ask about the
 // state after it.
-#[derive(Drop)]
+#[derive(Clone, Copy)]
 pub struct Seen {
     pub answer: u64,
     pub same: bool,

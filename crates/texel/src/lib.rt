@@ -1,5 +1,7 @@
 // Texels in a texture's words, two to a word: rule 5.13 of docs/RULES.md. The original unpacks them
 // when a texture comes; here one is read where it is drawn.
+#![tactic(auto)]
+
 ghost use Rattle.std.specs.Prelude.{◌≡◌, ◌/◌, ◌<◌, length};
 ghost use Rattle.texel.specs.Texel.{half_of, nibbles_of, texel_at};
 

@@ -8,7 +8,7 @@ use state::State;
 use store::{SLOTS, Slot};
 use words::least;
 
-#[derive(Drop)]
+#[derive(Clone, Copy)]
 pub struct Plan {
     // A reset, which takes neither state nor words, or a feed.
     pub reset: bool,
@@ -55,7 +55,7 @@ pub fn of(l: Line) -> Plan {
     p
 }
 
-#[derive(Drop)]
+#[derive(Clone, Copy)]
 pub struct Lengths {
     pub plane: usize,
     pub depth: usize,

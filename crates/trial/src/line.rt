@@ -7,7 +7,7 @@ pub const MOST: usize = 64;
 // An operation has up to six numbers, so it begins before this place.
 pub const OPS: usize = MOST - 5;
 
-#[derive(Drop)]
+#[derive(Clone, Copy)]
 pub struct Line {
     // Where an operation begins there is its letter, and elsewhere 0.
     pub letters: [u8; MOST],
@@ -19,7 +19,7 @@ pub struct Line {
     pub next: usize,
 }
 
-#[derive(Drop)]
+#[derive(Clone, Copy)]
 pub struct Op {
     pub letter: u8,
     pub a: u32,
@@ -81,7 +81,7 @@ pub fn skip(text: &[u8], from: usize) -> usize
 }
 
 // A letter, a number or both as far as they have been read, and how many are before them.
-#[derive(Drop)]
+#[derive(Clone, Copy)]
 struct Token {
     at: usize,
     radix: u32,

@@ -1,5 +1,7 @@
 // Triangles, for C, so that a test can draw them on buffers of its own: each export reads flat
 // records and calls one drawing function of `flat` or `raster`.
+#![tactic(auto)]
+
 ghost use Rattle.std.specs.Prelude.{◌≡◌, ◌≤◌, length};
 ghost use Rattle.screen.specs.Plane.{plane_bytes};
 ghost use Rattle.screen.specs.Draw.{pixels};

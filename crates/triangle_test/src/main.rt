@@ -2,6 +2,8 @@
 // of a texture of 8 by 8, then 2,000 records of 11 for flat triangles, then 2,000 of 52 floats:
 // three vertices of 16 and a colour. The float triangles are drawn in each of five ways. For every
 // 50 triangles, drawn on cleared buffers, it prints the digests of the plane and of both depths.
+#![tactic(auto)]
+
 ghost use Rattle.std.specs.Prelude.{◌≡◌, ◌<◌, length};
 ghost use Rattle.screen.specs.Plane.{plane_bytes};
 ghost use Rattle.screen.specs.Draw.{pixels};

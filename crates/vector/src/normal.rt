@@ -6,7 +6,7 @@ ghost use Rattle.vector.specs.Normals.{corner_of, minor_of, det_of, cofactors_of
 use crate::matrix::Matrix;
 
 // Row by row, with the original's letters.
-#[derive(Drop)]
+#[derive(Clone, Copy)]
 pub struct Matrix3 {
     pub a: f32,
     pub b: f32,
@@ -20,7 +20,7 @@ pub struct Matrix3 {
 }
 
 // An inverse, or none: the determinant is not finite, or at most 2^-23 in size.
-#[derive(Drop)]
+#[derive(Clone, Copy)]
 pub enum Inverse {
     Of(Matrix3),
     Singular,

@@ -1,5 +1,7 @@
 // What a command's checks, and the framing of words, come to: done, or refused with a reason and
 // the index of the payload word that was first found wrong.
+#![tactic(auto)]
+
 ghost use Rattle.std.specs.Prelude.{◌≡◌};
 ghost use Rattle.std.specs.Int.Bits.{bit_or};
 ghost use Rattle.verdict.specs.declared.Reason.TheVariants as reason;
@@ -7,7 +9,7 @@ ghost use Rattle.verdict.specs.declared.Verdict.TheVariants as verdict;
 ghost use Rattle.verdict.specs.Verdict.{number_of, bit_for, bits_of, first_after, noted_of, refusal_ok, and_then};
 
 // In the order of their numbers, 1 to 10 (rule 3.5 of docs/RULES.md).
-#[derive(Drop)]
+#[derive(Clone, Copy)]
 pub enum Reason {
     ZeroOpcode,
     CountTooLarge,
@@ -22,7 +24,7 @@ pub enum Reason {
 }
 
 // The index is 0 if a reason has no word to point at.
-#[derive(Drop)]
+#[derive(Clone, Copy)]
 pub enum Verdict {
     Done,
     Refused { reason: Reason, index: u32 },
@@ -30,7 +32,7 @@ pub enum Verdict {
 
 // A refusal, as a host is told of it: the number of its reason, the opcode of the header, and the
 // index. All three are 0 if nothing was refused.
-#[derive(Drop)]
+#[derive(Clone, Copy)]
 pub struct Refusal {
     pub reason: u32,
     pub opcode: u32,
@@ -46,7 +48,7 @@ impl Refusal {
 }
 
 // What refusals leave behind.
-#[derive(Drop)]
+#[derive(Clone, Copy)]
 pub struct Notes {
     pub status: u32,
 }

@@ -1,5 +1,7 @@
 // What happens to a corner, for C, so that a test can run it on any input: each export reads one
 // flat record and calls one function of `vector`, `light` or `clip`.
+#![tactic(auto)]
+
 mod polygon;
 pub mod record;
 

@@ -1,6 +1,8 @@
 // Replays what the original makes of corners. Standard input has a section of 49,152 bytes for each
 // function, records of a fixed number of floats one after another, each the lowest byte first. For
 // each section it prints the function's name and the digest of all its answers.
+#![tactic(auto)]
+
 ghost use Rattle.std.specs.Prelude.{◌<◌, ◌≤◌, length};
 
 use libc::{STDIN_FILENO, STDOUT_FILENO};

@@ -1,5 +1,7 @@
 // The machine: words in, a picture and a status out. Three calls, each of which takes every input:
 // `reset`, `feed` and `pixel`.
+#![tactic(auto)]
+
 ghost use Rattle.std.specs.Prelude.{◌≡◌, ◌≤◌, length, replicate};
 ghost use Rattle.screen.specs.Plane.{answered, pixel_of};
 ghost use Rattle.screen.specs.Depths.{far_ints, far_floats};
@@ -14,14 +16,14 @@ const PIXELS: usize = 76800;
 const MOST_WORDS: usize = 16777216;
 
 // What a call answers: 0, 1 and 2 of rule 1.5.
-#[derive(Drop)]
+#[derive(Clone, Copy)]
 pub enum Answer {
     Done,
     WrongLength,
     Malformed,
 }
 
-#[derive(Drop)]
+#[derive(Clone, Copy)]
 pub struct Fed {
     pub answer: Answer,
     pub state: State,

@@ -1,5 +1,7 @@
 // The machine for C: the same three calls, with the state as plain data and the answer as a number.
 // Every byte that a host can send has an answer: a switch above 1 is malformed, after the lengths.
+#![tactic(auto)]
+
 ghost use Rattle.std.specs.Prelude.{◌≡◌};
 ghost use Rattle.screen.specs.Plane.{pixel_of};
 ghost use Rattle.vpu.specs.Calls.{number_of};
@@ -10,7 +12,7 @@ use plain::{VpuColour, VpuState};
 use vpu::Answer;
 
 #[repr(C)]
-#[derive(Drop)]
+#[derive(Clone, Copy)]
 pub struct VpuFed {
     pub answer: u32,
     pub state: VpuState,

@@ -1,6 +1,8 @@
 // Bytes to words of four bytes, the lowest first: for programs that read a machine's words from a
 // file. Beside it two casts and the smaller of two numbers, as functions, so that a caller that
 // goes through a slice is asked for the index alone.
+#![tactic(auto)]
+
 ghost use Rattle.std.specs.Prelude.{◌≡◌, ℕ, ◌*◌, ◌/◌, ◌<◌, ◌≤◌, min, length, get_or};
 ghost use Rattle.words.specs.Little.{four, word_at};
 ghost use Rattle.io.specs.Counts.{IsPrefixLen};
