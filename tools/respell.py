@@ -124,7 +124,8 @@ def turn_rt(text, names, camel):
         head, brace, tail = t.partition("{")
         return head + brace + turn_code(tail, names)
 
-    return RT.sub(one, text)
+    # a clause may go on for lines; no name of src/ is in camel case
+    return TOKEN.sub(lambda m: names[m[0]] if m[0] in camel else m[0], RT.sub(one, text))
 
 
 def main(argv):

@@ -42,7 +42,7 @@ fn painted(
     requires textures_value { slots_ok kind.Texture (length textures.now) 0 s.textures ≡ true }
     requires models_value { slots_ok kind.Model (length models.now) 0 s.models ≡ true }
     ensures { machine (with_frame s result) plane.new depth.new depth_f32.new command.now textures.now models.now
-        ≡ executed asBox (machine (withFrame s f) plane.old depth.old depth_f32.old command.now textures.now models.now) }
+        ≡ executed as_box (machine (with_frame s f) plane.old depth.old depth_f32.old command.now textures.now models.now) }
 {
     let n = f.gathered as usize;
     let settings = s.settings;
@@ -75,7 +75,7 @@ pub fn run_words(
 ) -> State
     requires { Sound state (length plane.old) (length depth.old) (length depth_f32.old) (length command.old) (length textures.old) (length models.old) }
     ensures { machine result plane.new depth.new depth_f32.new command.new textures.new models.new
-        ≡ run asBox (machine state plane.old depth.old depth_f32.old command.old textures.old models.old) words.now }
+        ≡ run as_box (machine state plane.old depth.old depth_f32.old command.old textures.old models.old) words.now }
 {
     let mut s = state;
     let mut f = frame_of(state);

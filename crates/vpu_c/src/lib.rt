@@ -38,7 +38,7 @@ pub extern "C" fn vpu_reset(
     models: &mut [u32],
 ) -> VpuFed
     ensures { handed result.answer result.state plane.new depth.new depth_f32.new command.now textures.new models.new
-        ≡ resetC plane.old depth.old depth_f32.old command.now textures.old models.old }
+        ≡ reset_c plane.old depth.old depth_f32.old command.now textures.old models.old }
 {
     let begun = vpu::reset(plane, depth, depth_f32, command, textures, models);
     let answer = begun.answer;
@@ -61,7 +61,7 @@ pub extern "C" fn vpu_feed(
     models: &mut [u32],
 ) -> VpuFed
     ensures { handed result.answer result.state plane.new depth.new depth_f32.new command.new textures.new models.new
-        ≡ feedC state words.now plane.old depth.old depth_f32.old command.old textures.old models.old }
+        ≡ feed_c state words.now plane.old depth.old depth_f32.old command.old textures.old models.old }
 {
     if !plain::switches_ok(state) {
         if !vpu::lengths_ok(
