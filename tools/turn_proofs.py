@@ -256,8 +256,19 @@ def turn(folder, crate, path, f):
     def rest(code):
         """Replaces tie types and paths in code."""
         s = code
-        for _, n, vs, ch in f.vars:
-            pass
+        # a name for a place before this one is c: each step is a field of c
+        alias = {}
+        while True:
+            m = re.search(r"let ([a-zA-Z_][\w'₀₁₂₃-]*) = ((?:c|" + "|".join(map(re.escape, alias)) + r")(?:\.before)+) in\s+" if alias else r"let ([a-zA-Z_][\w'₀₁₂₃-]*) = (c(?:\.before)+) in\s+", s)
+            if not m:
+                break
+            at = m[2].split(".")
+            chain = alias.get(at[0], [at[0]]) + at[1:]
+            alias[m[1]] = chain
+            a = re.escape(m[1])
+            s = s[: m.start()] + s[m.end():]
+            s = re.sub(r"(?<![\w'.◌-])" + a + r"(?=\.(?!before)[a-zA-Z])", "c", s)
+            s = re.sub(r"(?<![\w'.◌-])" + a + r"(?![\w'₀₁₂₃-])", ".".join(chain), s)
         s = re.sub(r"tie\.([A-Z][A-Za-z0-9_-]*)((?:\s+(?:" + "|".join(map(re.escape, sorted(invnames, key=len, reverse=True))) + r"))*)" if invnames else r"tie\.([A-Z][A-Za-z0-9_-]*)()",
                    lambda m: placed(m[1]), s)
         s = PATH.sub(lambda m: m[0] if m[1] in ("tie", "goal", "Rattle", "lib", "mathlib", "native", "borrow", "denote", "contract") else f.path(m[1], m[2][1:].split(".")), s)
