@@ -1,0 +1,4 @@
+use Rattle.vector.proofs.normal.cofactors.Goals as goal
+
+pub returns : goal.returns
+returns c = cc
