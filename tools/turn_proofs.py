@@ -68,12 +68,38 @@ class Function:
                         continue
                     self.arms[(norm(ostep), *opath)] = (arm[0], new)
         self.loops = {norm(o): n for (o, n), vs in data["loops"]}
+        self.parent, self.at_place, self.arm_of = {}, {}, {}
+        for i, (old, parent, (so, sn), callee, typed) in enumerate(data["places"]):
+            self.parent[norm(old)] = norm(parent) if parent else None
+            self.at_place[norm(old)] = (norm(so), sn)
+            if data["arms"][i]:
+                self.arm_of[norm(old)] = data["arms"][i]
+        self.here = None
+        self.params = {norm(o.split(".")[-1]): n.split(".")[-1] for o, n in data["args"] if o.startswith(".args ")}
+        self.told = {norm(o[1:]): n[1:] for o, n in data["args"] if not o.startswith(".args ") and not o.startswith(".ranges ")}
+        self.callees = {c.split("::")[-1]: c for o, p, st, c, t in data["places"] if c}
         self.vars = [(norm(o), n, vs, data["changed"][i]) for i, ((o, n), vs) in enumerate(data["loops"])]
 
     def path(self, head, segs):
         """The new form of head.segs, given as a list of segments."""
+        place = self.here if head == "c" else None
         while segs and segs[0] == "before" and any(s != "before" for s in segs):
             segs = segs[1:]
+            place = self.parent.get(place) if place else None
+        if place and segs and segs[0] != "before":
+            # exactly this place's step
+            so, sn = self.at_place.get(place, (None, None))
+            arm = self.arm_of.get(place)
+            if arm:
+                for new, ostep, opath in sorted(arm[2], key=lambda a: -len(a[2])):
+                    k = len(opath)
+                    if not new.endswith("-own") and norm(segs[0]) == norm(ostep) and segs[1 : 1 + k] == opath:
+                        return ".".join([head, arm[0], new] + segs[1 + k :])
+                for new, ostep, opath in arm[2]:
+                    if new.endswith("-own") and norm(segs[0]) == norm(ostep) and not opath and len(segs) > 1:
+                        return ".".join([head, arm[0], new] + segs[1:])
+            if norm(segs[0]) == so:
+                self.steps = {**self.steps, so: {sn}}
         out = []
         i = 0
         while i < len(segs):
@@ -122,8 +148,12 @@ class Function:
                 out.append(s)
                 i += 1
                 if i < len(segs):
-                    out.append(norm(segs[i]))
+                    out.append(self.params.get(norm(segs[i]), norm(segs[i])))
                     i += 1
+                continue
+            if norm(s) in self.told:
+                out.append(self.told[norm(s)])
+                i += 1
                 continue
             if s == "well-formed":
                 s = "well_formed"
@@ -269,10 +299,60 @@ def turn(folder, crate, path, f):
             s = s[: m.start()] + s[m.end():]
             s = re.sub(r"(?<![\w'.◌-])" + a + r"(?=\.(?!before)[a-zA-Z])", "c", s)
             s = re.sub(r"(?<![\w'.◌-])" + a + r"(?![\w'₀₁₂₃-])", ".".join(chain), s)
+        # a name for the arguments, too
+        while True:
+            m = re.search(r"let ([a-zA-Z_][\w'₀₁₂₃-]*) = (c(?:\.before)*\.args) in\s+", s)
+            if not m:
+                break
+            s = s[: m.start()] + s[m.end():]
+            s = re.sub(r"(?<![\w'.◌-])" + re.escape(m[1]) + r"(?=\.[a-zA-Z])", m[2], s)
+        # the lengths of arrays in a parameter are said plainly
+        s = re.sub(r"simp length-map at (c\.(?:before\.)*well-formed)", r"\1", s)
         s = re.sub(r"tie\.([A-Z][A-Za-z0-9_-]*)((?:\s+(?:" + "|".join(map(re.escape, sorted(invnames, key=len, reverse=True))) + r"))*)" if invnames else r"tie\.([A-Z][A-Za-z0-9_-]*)()",
                    lambda m: placed(m[1]), s)
         s = PATH.sub(lambda m: m[0] if m[1] in ("tie", "goal", "Rattle", "lib", "mathlib", "native", "borrow", "denote", "contract") else f.path(m[1], m[2][1:].split(".")), s)
         return s
+
+    def labelled(new, body):
+        """A tuple that answers several clauses becomes a record of them."""
+        kind = None
+        if re.match(r"returns\b", new):
+            labels_ = f.own[1]
+        elif "-requires" in new:
+            base = new.split("-requires")[0].split("-")[0]
+            callee = f.callees.get(base)
+            if not callee:
+                cs = [k for k in f.labels if k.split("::")[-1] == base]
+                callee = cs[0] if len(cs) == 1 else next((k for k in cs if k.startswith(crate + "::")), None)
+            labels_ = f.labels.get(callee, ([], []))[0]
+        else:
+            return body
+        if len(labels_) < 2 or not all(labels_):
+            return body
+        t = body.rstrip()
+        if not t.endswith(")"):
+            return body
+        deep, i = 0, len(t) - 1
+        while i >= 0:
+            deep += t[i] == ")"
+            deep -= t[i] == "("
+            if deep == 0:
+                break
+            i -= 1
+        before = t[:i].rstrip()
+        if before and not re.search(r"(\bin|\$)$", before):
+            return body
+        inner, parts, deep, last = t[i + 1 : -1], [], 0, 0
+        for k, ch in enumerate(inner):
+            deep += ch in "([{"
+            deep -= ch in ")]}"
+            if ch == "," and deep == 0:
+                parts.append(inner[last:k].strip())
+                last = k + 1
+        parts.append(inner[last:].strip())
+        if len(parts) != len(labels_):
+            return body
+        return t[:i] + "record { " + "; ".join(f"{l} = {q}" for l, q in zip(labels_, parts)) + " }"
 
     # invariants
     iout, hused = [], []
@@ -329,18 +409,22 @@ def turn(folder, crate, path, f):
     for k, (com, code, n) in enumerate(helpers):
         if k in picked:
             continue
+        pm = re.search(r"\(c : tie\.([A-Z][A-Za-z0-9_-]*)", code[0])
+        f.here = norm(pm[1]) if pm else None
         aout.append("\n".join(com + [rest("\n".join(code))]))
     kept = 0
     for a in order:
         com, code, _ = needs[a]
         new = mapping[a]
+        idx = next((k for k, (o, n) in enumerate(jneeds) if n == new), None)
+        f.here = norm(f.d["asked_at"][idx][0]) if idx is not None else None
         eqs = "\n".join(code[1:])
         m2 = re.match(r"((?:unfolding [^\n]*\n)?)" + re.escape(a) + r"\s+(\w+)((?: κs)?)\s*=\s*(.*)\Z", eqs, re.S)
         if m2 and re.sub(r"\s+", " ", m2[4]).strip() in ("search rules", "search needs", "λ κs. search rules"):
             continue
         kept += 1
         if m2:
-            aout.append("\n".join(com + [f"pub {new} : goal.{new}", m2[1] + f"{new} {m2[2]} =" + (" " if "\n" not in eqs[m2.start(4) - 1 : m2.start(4)] else "\n    ") + rest(m2[4]).rstrip()]))
+            aout.append("\n".join(com + [f"pub {new} : goal.{new}", m2[1] + f"{new} {m2[2]} =" + (" " if "\n" not in eqs[m2.start(4) - 1 : m2.start(4)] else "\n    ") + labelled(new, rest(m2[4]).rstrip())]))
         else:
             f.say(f"{a}: not one equation")
             aout.append("\n".join(com + [f"pub {new} : goal.{new}", re.sub(r"^" + re.escape(a) + r"\b", new, rest(eqs), flags=re.M)]))
