@@ -311,6 +311,8 @@ def turn(folder, crate, path, f):
         s = re.sub(r"tie\.([A-Z][A-Za-z0-9_-]*)((?:\s+(?:" + "|".join(map(re.escape, sorted(invnames, key=len, reverse=True))) + r"))*)" if invnames else r"tie\.([A-Z][A-Za-z0-9_-]*)()",
                    lambda m: placed(m[1]), s)
         s = PATH.sub(lambda m: m[0] if m[1] in ("tie", "goal", "Rattle", "lib", "mathlib", "native", "borrow", "denote", "contract") else f.path(m[1], m[2][1:].split(".")), s)
+        # a test of `!x` says of x itself what it was
+        s = re.sub(r"not-(?:true|false) (?:\([^()]*\)|[^\s()]+) (c\.if-not-[^\s()]+\.(?:true|false))", r"\1", s)
         return s
 
     def labelled(new, body):
@@ -420,7 +422,7 @@ def turn(folder, crate, path, f):
         f.here = norm(f.d["asked_at"][idx][0]) if idx is not None else None
         eqs = "\n".join(code[1:])
         m2 = re.match(r"((?:unfolding [^\n]*\n)?)" + re.escape(a) + r"\s+(\w+)((?: κs)?)\s*=\s*(.*)\Z", eqs, re.S)
-        if m2 and re.sub(r"\s+", " ", m2[4]).strip() in ("search rules", "search needs", "λ κs. search rules"):
+        if m2 and not m2[1] and re.sub(r"\s+", " ", m2[4]).strip() in ("search rules", "search needs", "λ κs. search rules"):
             continue
         kept += 1
         if m2:
