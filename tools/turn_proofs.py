@@ -36,6 +36,8 @@ def labels_of(root):
             kinds = []
             for k in ("requires", "ensures"):
                 kinds.append([x or None for x in re.findall(r"^\s+" + k + r"\*? *(\w*) *\{", body, re.M)])
+            sig = re.match(r"(?:<[^>]*>)?\((.*?)\)\s*(?:->|\n|requires|ensures|$)", body, re.S)
+            kinds.append(re.findall(r"(?:^|,)\s*&?(?:mut )?(\w+)\s*(?=:|,|$)", sig[1]) if sig else [])
             impl = None
             if m[1]:
                 before = text[: m.start()]
@@ -51,6 +53,7 @@ class Function:
         self.d = data
         self.labels = labels
         self.own = own  # labels of this function
+        self.alias = {}  # a name that a let gives to a call -> the old step
         self.arms = {}   # (old step, old path...) -> new text
         self.steps = {}  # old step -> set of new
         self.callee = {}
@@ -67,6 +70,10 @@ class Function:
                     if new.endswith("-own"):
                         continue
                     self.arms[(norm(ostep), *opath)] = (arm[0], new)
+        self.callee_new = {}
+        for old, new in ((o, x) for o, ns in self.steps.items() for x in ns):
+            if old in self.callee:
+                self.callee_new[new] = self.callee[old]
         self.loops = {norm(o): n for (o, n), vs in data["loops"]}
         self.vars = [(norm(o), n, vs, data["changed"][i]) for i, ((o, n), vs) in enumerate(data["loops"])]
 
@@ -76,6 +83,13 @@ class Function:
             segs = segs[1:]
         out = []
         i = 0
+        if head == "args" and segs:
+            return ".".join([head, self.param(segs[0])] + segs[1:])
+        if head in self.alias and segs[0] in ("ensures", "new", "result"):
+            out.append(segs[0])
+            i = 1
+            if segs[0] == "ensures":
+                i = self.label(out, segs, i, self.labels.get(self.callee.get(self.alias[head]), ([], []))[1])
         while i < len(segs):
             s = segs[i]
             if s == "before":
@@ -122,7 +136,7 @@ class Function:
                 out.append(s)
                 i += 1
                 if i < len(segs):
-                    out.append(norm(segs[i]))
+                    out.append(self.param(segs[i]))
                     i += 1
                 continue
             if s == "well-formed":
@@ -155,11 +169,74 @@ class Function:
             return j
         return i
 
+    def param(self, name):
+        """An array among the arguments was t1, t2 .. by its position."""
+        names = self.own[2] if len(self.own) > 2 else []
+        m = re.fullmatch(r"t(\d+)", name)
+        if m and norm(name) not in names and int(m[1]) <= len(names):
+            return names[int(m[1]) - 1]
+        return norm(name)
+
     def flat(self, segs, i, labels):
         return int(segs[i]) >= 2 or (int(segs[i]) == 1 and len(labels) == 2)
 
+    def asked(self, goal):
+        """The labels of the clauses that a goal asks for."""
+        if goal.startswith("returns"):
+            return self.own[1]
+        for new in sorted(self.callee_new, key=len, reverse=True):
+            if re.fullmatch(re.escape(new) + r"(-\d+)?-requires", goal) or goal.startswith(new + "-requires"):
+                return self.labels.get(self.callee_new[new], ([], []))[0]
+        return []
+
     def say(self, text):
         print(f"look: {self.where}: {text}")
+
+
+def parts(text):
+    """The parts of a tuple (a, b, ..) that the text is, else None."""
+    t = text.strip()
+    if not t.startswith("("):
+        return None
+    depth, out, cur = 0, [], ""
+    for k, ch in enumerate(t):
+        if ch in "([{":
+            depth += 1
+            if depth == 1:
+                continue
+        if ch in ")]}":
+            depth -= 1
+            if depth == 0:
+                if t[k + 1 :].strip():
+                    return None
+                if cur.strip():
+                    out.append(cur.strip())
+                return out if len(out) > 1 else None
+        if ch == "," and depth == 1:
+            out.append(cur.strip())
+            cur = ""
+            continue
+        cur += ch
+    return None
+
+
+def to_record(body, labels):
+    """A tuple with a part for each label, alone or after `let .. in`, becomes a record of them."""
+    if len(labels) < 2 or not all(labels):
+        return body
+    pos = -1
+    for m in re.finditer(r"(?:^|\bin\s|=\s)\s*(?=\()", body):
+        if parts(body[m.end() :]):
+            pos = m.end()
+            break
+    if pos < 0:
+        return body
+    ps = parts(body[pos:])
+    while len(ps) < len(labels) and parts(ps[-1]):
+        ps = ps[:-1] + parts(ps[-1])
+    if len(ps) != len(labels):
+        return body
+    return body[:pos] + "record { " + "; ".join(f"{l} = {x}" for l, x in zip(labels, ps)) + " }"
 
 
 def blocks_of(text):
@@ -247,15 +324,56 @@ def turn(folder, crate, path, f):
         pass
 
     places = set()
+    at_old = {new: a[0] for (old, new), a in zip(jneeds, f.d.get("asked_at", []))}
 
     def placed(old):
         new = f.place.get(norm(old), old)
         places.add(new)
         return new
 
-    def rest(code):
-        """Replaces tie types and paths in code."""
+    chain = {old: parent for old, parent, *_ in f.d["places"]}
+
+    def rest(code, goal=None, at=None):
+        """Replaces tie types and paths in code. An answer's `let a = c.before.before in` goes: a.x is c.x now, and a is (goal.at.GOAL c).PLACE."""
         s = code
+        f.alias = {}
+        if goal:
+            ctx = {"c": at}
+            while True:
+                m = re.search(r"let (" + NAME + r") = (" + "|".join(map(re.escape, ctx)) + r")((?:\.before)+) in\s*", s)
+                if not m:
+                    break
+                place = ctx[m[2]]
+                for _ in range(m[3].count(".before")):
+                    place = chain.get(place) if place else None
+                ctx[m[1]] = place
+                new = f.place.get(norm(place), place) if place else None
+                if place:
+                    bare = f"(goal.at.{goal} c).{new}"
+                else:
+                    f.say(f"{goal}: what is {m[0].strip()}")
+                    bare = m[1]
+                tail = s[m.end():]
+                a = r"(?<![\w'.◌-])" + re.escape(m[1]) + r"(?![\w'₀₁-])"
+                tail = re.sub(a + r"(?=\.(?!before(?:\.before)* in\b))", "c", tail)
+                k = tail
+                # a chain of a's own is a chain from a's place
+                for m3 in list(re.finditer(r"let (" + NAME + r") = " + re.escape(m[1]) + r"((?:\.before)+) in\s*", k)):
+                    pass
+                tail = re.sub(a + r"(?!\.)", bare, tail)
+                s = s[: m.start()] + tail
+            # c.before.before given to a lemma
+            def given_at(m):
+                place = at
+                for _ in range(m[0].count(".before")):
+                    place = chain.get(place) if place else None
+                if not place:
+                    return m[0]
+                return f"(goal.at.{goal} c).{f.place.get(norm(place), place)}"
+            s = re.sub(r"(?<![\w'.◌-])c(?:\.before)+(?![\w'.-])", given_at, s)
+        for m in re.finditer(r"let (" + NAME + r") = [\w'-]+(?:\.before)*\.([\w'-]+) in", s):
+            if norm(m[2]) in f.callee:
+                f.alias[m[1]] = norm(m[2])
         for _, n, vs, ch in f.vars:
             pass
         s = re.sub(r"tie\.([A-Z][A-Za-z0-9_-]*)((?:\s+(?:" + "|".join(map(re.escape, sorted(invnames, key=len, reverse=True))) + r"))*)" if invnames else r"tie\.([A-Z][A-Za-z0-9_-]*)()",
@@ -329,7 +447,7 @@ def turn(folder, crate, path, f):
             continue
         kept += 1
         if m2:
-            aout.append("\n".join(com + [f"pub {new} : goal.{new}", m2[1] + f"{new} {m2[2]} =" + (" " if "\n" not in eqs[m2.start(4) - 1 : m2.start(4)] else "\n    ") + rest(m2[4]).rstrip()]))
+            aout.append("\n".join(com + [f"pub {new} : goal.{new}", m2[1] + f"{new} {m2[2]} =" + (" " if "\n" not in eqs[m2.start(4) - 1 : m2.start(4)] else "\n    ") + to_record(rest(m2[4], new, at_old.get(new)).rstrip(), f.asked(new))]))
         else:
             f.say(f"{a}: not one equation")
             aout.append("\n".join(com + [f"pub {new} : goal.{new}", re.sub(r"^" + re.escape(a) + r"\b", new, rest(eqs), flags=re.M)]))
