@@ -1,4 +1,3 @@
-use Prim.Native.Nat.{◌-◌}
 use Rattle.laws.proofs.Fill.{filled_none, filled_more, filled_all}
 use Rattle.screen.proofs.depths.refill_floats.Goals as goal
 

@@ -1,8 +1,7 @@
-use Prim.Native.Nat.{◌-◌, ◌<◌}
+use Prim.Native.Nat.{◌<◌}
 use mathlib.Core.Path.{refl, sym, ap, ◌∙◌}
 use native.Mathlib.Omega.{arith}
 use borrow.Author.Rules.{rules}
-use mathlib.Core.Logic.{⊎_elim}
 use lib.ListN.{length}
 use Rattle.store.specs.Slots.{slot_for}
 use Rattle.store.proofs.Walk.{found_here, found_unheld, found_other, slots_end}
@@ -36,9 +35,9 @@ loop-i-preserved c = let args = c.args in
         c.loop-i.invariant.1.0,
         c.loop-i.invariant.1.1
             ∙ elim c.if-s.branch [
-                then-s+else-s-number w ↦ found_other args.slots c.loop-i.i here args.number w.if-s.true w.if-s-number.false
+              | then-s+else-s-number w ↦ found_other args.slots c.loop-i.i here args.number w.if-s.true w.if-s-number.false
               | else-s w ↦ found_unheld args.slots c.loop-i.i here args.number w.if-s.false
-              ],
+            ],
       ),
     )
 

@@ -1,6 +1,5 @@
 -- `store::slots::others` meets its contract. The invariant is `Packed`: the slots up to i are done. Assumes nothing.
 use Prim.Native.Nat.{◌-◌}
-use Rattle.store.specs.Uploads.{total}
 use Rattle.store.proofs.Walk.{Packed}
 use Rattle.store.proofs.slots.others.Given as goal
 

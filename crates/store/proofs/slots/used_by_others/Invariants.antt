@@ -1,6 +1,5 @@
 -- `store::slots::used_by_others` meets its contract. The invariant is `Tally`: the slots up to i are done. Assumes nothing.
 use Prim.Native.Nat.{◌-◌}
-use Rattle.store.specs.Uploads.{total}
 use Rattle.store.proofs.Walk.{Tally}
 use Rattle.store.proofs.slots.used_by_others.Given as goal
 

@@ -86,5 +86,8 @@ returns c = let args = c.args in
     let used = c.used_by_others-used in
     let size = c.area-size in
     let move = c.move_down-moved in
-    record { store_after = c.put_last-2.ensures
-          ∙ put_old args.kind args.slots args.store.now args.number (long (goal.at.returns c).After-area-size) c.requires.slots_value args.words.now _ (slot (goal.at.returns c).After-area-size) size.result used.result.total (found (goal.at.returns c).After-area-size) size.ensures used.ensures.1 move.ensures.store_after; value = let s = spot_at (goal.at.returns c).After-area-size in omega (arith, move.ensures.value, size.ensures, used.ensures.1, s.left, s.later) }
+    record {
+      store_after = c.put_last-2.ensures
+          ∙ put_old args.kind args.slots args.store.now args.number (long (goal.at.returns c).After-area-size) c.requires.slots_value args.words.now _ (slot (goal.at.returns c).After-area-size) size.result used.result.total (found (goal.at.returns c).After-area-size) size.ensures used.ensures.1 move.ensures.store_after;
+      value = let s = spot_at (goal.at.returns c).After-area-size in omega (arith, move.ensures.value, size.ensures, used.ensures.1, s.left, s.later);
+    }
