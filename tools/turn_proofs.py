@@ -75,6 +75,7 @@ class Function:
             if data["arms"][i]:
                 self.arm_of[norm(old)] = data["arms"][i]
         self.here = None
+        self.alias = {}
         self.params = {norm(o.split(".")[-1]): n.split(".")[-1] for o, n in data["args"] if o.startswith(".args ")}
         self.told = {norm(o[1:]): n[1:] for o, n in data["args"] if not o.startswith(".args ") and not o.startswith(".ranges ")}
         self.callees = {c.split("::")[-1]: c for o, p, st, c, t in data["places"] if c}
@@ -102,6 +103,10 @@ class Function:
                 self.steps = {**self.steps, so: {sn}}
         out = []
         i = 0
+        if head in self.alias and segs and segs[0] == "ensures":
+            # a name that a let gave to a call
+            out.append("ensures")
+            i = self.label(out, segs, 1, self.labels.get(self.callee.get(self.alias[head]), ([], []))[1])
         while i < len(segs):
             s = segs[i]
             if s == "before":
@@ -306,6 +311,7 @@ def turn(folder, crate, path, f):
                 break
             s = s[: m.start()] + s[m.end():]
             s = re.sub(r"(?<![\w'.◌-])" + re.escape(m[1]) + r"(?=\.[a-zA-Z])", m[2], s)
+        f.alias = {m[1]: norm(m[2]) for m in re.finditer(r"let (" + NAME + r") = [\w'-]+(?:\.before)*\.([\w'-]+) in", s) if norm(m[2]) in f.callee}
         # the lengths of arrays in a parameter are said plainly
         s = re.sub(r"simp length-map at (c\.(?:before\.)*well-formed)", r"\1", s)
         s = re.sub(r"tie\.([A-Z][A-Za-z0-9_-]*)((?:\s+(?:" + "|".join(map(re.escape, sorted(invnames, key=len, reverse=True))) + r"))*)" if invnames else r"tie\.([A-Z][A-Za-z0-9_-]*)()",

@@ -1,0 +1,12 @@
+-- A fill from the front: the laws of `Fill`. Assumes nothing.
+use lib.IntN.{pos}
+use Prim.Native.Nat.{◌-◌}
+use lib.ListN.{length}
+use Rattle.laws.proofs.Fill.{Filled}
+use Rattle.screen.proofs.depths.refill_ints.Given as goal
+
+abbrev pub invariant-loop-i : goal.invariant-loop-i
+invariant-loop-i l = Filled l.initial.depth (pos 2147483647) l.depth l.i
+
+abbrev pub decreases-loop-i : goal.decreases-loop-i
+decreases-loop-i l = length l.initial.depth - l.i
