@@ -83,6 +83,8 @@ class Function:
 
     def path(self, head, segs):
         """The new form of head.segs, given as a list of segments."""
+        # port.py took some steps for types
+        segs = [x.lower() if x not in self.steps and norm(x.lower()) in self.steps and "-" in x else x for x in segs]
         place = self.here if head == "c" else None
         while segs and segs[0] == "before" and any(s != "before" for s in segs):
             segs = segs[1:]

@@ -1,6 +1,6 @@
 -- An edge along a row is the edge at the pixel, bit for bit, and the first edge that fails settles a pixel. Assumes nothing.
-use mathlib.Core.Path.{◌≡◌, refl, sym, ap, ◌∙◌}
-use mathlib.Core.Bool.{Bool, true, false}
+use mathlib.Core.Path.{◌≡◌, sym, ◌∙◌}
+use mathlib.Core.Bool.{Bool}
 use Prim.Native.Nat.{ℕ}
 use lib.Ieee.{Float}
 use Rattle.vector.specs.Three.{◌⊘◌}

@@ -11,7 +11,6 @@ use Rattle.vector.specs.Three.{◌⊕◌, ◌⊖◌, ◌·◌, ◌⊘◌, at, ep
 use Rattle.clip.specs.declared.vertex.ClipVertex.{ClipVertex}
 use Rattle.clip.specs.Vertices.{no_vertex}
 use Rattle.screen.specs.Plane.{width, height}
-use Rattle.face.specs.declared.Corners.{Corners}
 use Rattle.face.specs.declared.Point.{Point}
 use Rattle.face.specs.declared.Bounds.{Bounds}
 use Rattle.face.specs.declared.Face.{Face}
