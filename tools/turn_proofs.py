@@ -41,6 +41,15 @@ def labels_of(root):
                 before = text[: m.start()]
                 i = re.findall(r"^impl(?:<[^>]*>)? (?:\w+ for )?(\w+)", before, re.M)
                 impl = i[-1] if i else None
+            # the parameters' names, since an argument's old name may be t1, t2, .. by its place
+            inner, depth = "", 0
+            for ch in m[3][m[3].index("(") :] if "(" in m[3] else "":
+                depth += ch in "([<{"
+                depth -= ch in ")]>}"
+                if not depth:
+                    break
+                inner += ch if depth == 1 and ch in "," else (ch if ch != "," else " ")
+            kinds.append([re.sub(r"^(mut|&mut|&) ?", "", x.strip().lstrip("(").strip()).split(":")[0].strip() for x in inner.split(",")])
             name = "::".join([crate] + mods + ([impl] if impl else []) + [m[2]])
             out[name] = kinds
     return out
@@ -122,7 +131,10 @@ class Function:
                 out.append(s)
                 i += 1
                 if i < len(segs):
-                    out.append(norm(segs[i]))
+                    a, t = norm(segs[i]), re.fullmatch(r"t(\d+)", segs[i])
+                    if t and len(self.own) > 2 and a not in self.own[2] and 0 < int(t[1]) <= len(self.own[2]):
+                        a = self.own[2][int(t[1]) - 1]
+                    out.append(a)
                     i += 1
                 continue
             if s == "well-formed":
@@ -272,6 +284,8 @@ def turn(folder, crate, path, f):
         s = re.sub(r"tie\.([A-Z][A-Za-z0-9_-]*)((?:\s+(?:" + "|".join(map(re.escape, sorted(invnames, key=len, reverse=True))) + r"))*)" if invnames else r"tie\.([A-Z][A-Za-z0-9_-]*)()",
                    lambda m: placed(m[1]), s)
         s = PATH.sub(lambda m: m[0] if m[1] in ("tie", "goal", "Rattle", "lib", "mathlib", "native", "borrow", "denote", "contract") else f.path(m[1], m[2][1:].split(".")), s)
+        for m in set(re.findall(r"let (\w+) = c\.args in", s)):
+            s = re.sub(r"(?<![\w'.◌-])" + m + r"((?:\.[A-Za-z0-9_'-]+)+)", lambda x: m + f.path("c", ["args", *x[1][1:].split(".")])[6:], s)
         # a test of `!x` says of x itself what it was
         s = re.sub(r"not-(?:true|false) (?:\([^()]*\)|[^\s()]+) (c\.if-not-[^\s()]+\.(?:true|false))", r"\1", s)
         return s
