@@ -319,6 +319,7 @@ def turn(folder, crate, path, f):
         s = re.sub(r"tie\.([A-Z][A-Za-z0-9_-]*)((?:\s+(?:" + "|".join(map(re.escape, sorted(invnames, key=len, reverse=True))) + r"))*)" if invnames else r"tie\.([A-Z][A-Za-z0-9_-]*)()",
                    lambda m: placed(m[1]), s)
         s = PATH.sub(lambda m: m[0] if m[1] in ("tie", "goal", "Rattle", "lib", "mathlib", "native", "borrow", "denote", "contract") else f.path(m[1], m[2][1:].split(".")), s)
+        s = re.sub(r"(?<=\)\.args\.)[a-z0-9]+(?:-[a-z0-9]+)+", lambda m: norm(m[0]), s)
         # a test of `!x` says of x itself what it was
         s = re.sub(r"not-(?:true|false) (?:\([^()]*\)|[^\s()]+) (c\.if-not-[^\s()]+\.(?:true|false))", r"\1", s)
         return s
@@ -359,7 +360,8 @@ def turn(folder, crate, path, f):
             if ch == "," and deep == 0:
                 parts.append(inner[last:k].strip())
                 last = k + 1
-        parts.append(inner[last:].strip())
+        if inner[last:].strip():
+            parts.append(inner[last:].strip())
         if len(parts) != len(labels_):
             return body
         return t[:i] + "record { " + "; ".join(f"{l} = {q}" for l, q in zip(labels_, parts)) + " }"
