@@ -1,6 +1,6 @@
 -- Each arm is its line of the definition. Assumes nothing.
 use mathlib.Core.Path.{sym, ap}
-use borrow.Author.Tests.{ne_eqb}
+use borrow.Author.Rules.{rules}
 use Rattle.command.specs.Command.{command_of}
 use Rattle.command.proofs.command_of.Goals as goal
 
