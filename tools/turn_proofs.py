@@ -76,6 +76,9 @@ class Function:
                 self.arm_of[norm(old)] = data["arms"][i]
         self.here = None
         self.alias = {}
+        self.told_by, self.left_by = {}, {}
+        self.head = "c"
+        self.goal = None
         self.params = {norm(o.split(".")[-1]): n.split(".")[-1] for o, n in data["args"] if o.startswith(".args ")}
         self.told = {norm(o[1:]): n[1:] for o, n in data["args"] if not o.startswith(".args ") and not o.startswith(".ranges ")}
         self.callees = {c.split("::")[-1]: c for o, p, st, c, t in data["places"] if c}
@@ -85,7 +88,7 @@ class Function:
         """The new form of head.segs, given as a list of segments."""
         # port.py took some steps for types
         segs = [x.lower() if x not in self.steps and norm(x.lower()) in self.steps and "-" in x else x for x in segs]
-        place = self.here if head == "c" else None
+        place = self.here if head == self.head else None
         while segs and segs[0] == "before" and any(s != "before" for s in segs):
             segs = segs[1:]
             place = self.parent.get(place) if place else None
@@ -109,6 +112,11 @@ class Function:
             # a name that a let gave to a call
             out.append("ensures")
             i = self.label(out, segs, 1, self.labels.get(self.callee.get(self.alias[head]), ([], []))[1])
+        if head in self.told_by and segs and re.fullmatch(r"\d", segs[0]):
+            # a name that a let gave to what a call ensures
+            i = self.label(out, segs, 0, self.labels.get(self.callee.get(self.told_by[head]), ([], []))[1])
+        if head in self.left_by and segs and re.fullmatch(r"\d", segs[0]):
+            i = self.after(out, segs, 0, self.left_by[head])
         while i < len(segs):
             s = segs[i]
             if s == "before":
@@ -142,9 +150,18 @@ class Function:
                     out.append("ensures")
                     i += 1
                     i = self.label(out, segs, i, self.labels.get(self.callee.get(n), ([], []))[1])
+                elif i + 1 < len(segs) and segs[i] in ("new", "auto"):
+                    out.append(segs[i])
+                    i = self.after(out, segs, i + 1, n)
                 elif i < len(segs):
                     out.append(norm(segs[i]) if segs[i] not in ("known-fits-r",) else segs[i])
                     i += 1
+                continue
+            if s == "pre":
+                s = "requires"
+            if s == "auto" and out and i + 1 < len(segs):
+                out.append(s)
+                i = self.after(out, segs, i + 1, norm(segs[i - 1]))
                 continue
             if s == "requires":
                 out.append(s)
@@ -158,7 +175,7 @@ class Function:
                     out.append(self.params.get(norm(segs[i]), norm(segs[i])))
                     i += 1
                 continue
-            if norm(s) in self.told:
+            if not out and norm(s) in self.told:
                 out.append(self.told[norm(s)])
                 i += 1
                 continue
@@ -167,6 +184,20 @@ class Function:
             out.append(s)
             i += 1
         return ".".join([head] + out)
+
+    def after(self, out, segs, i, step):
+        """What a `&mut` of the callee holds afterwards went by its position."""
+        ps = self.d["params"].get(self.callee.get(step), [])
+        if re.fullmatch(r"\d", segs[i]):
+            k = 0
+            while i < len(segs) and segs[i] == "1" and i + 1 < len(segs) and re.fullmatch(r"\d", segs[i + 1]):
+                k += 1
+                i += 1
+            k += int(segs[i])
+            if k < len(ps):
+                out.append(ps[k])
+                return i + 1
+        return i
 
     def label(self, out, segs, i, labels):
         """n labelled clauses were a product (a, (b, (c, ..)))  or a flat tuple: .0, .1, .1.0 .."""
@@ -203,7 +234,7 @@ def blocks_of(text):
     head, rest, seen = [], [], False
     lines = text.split("\n")
     i = 0
-    while i < len(lines) and not TOP.match(lines[i]) and not re.match(r"(module|data|record|ruleset|pub data|pub record|mutual)\b", lines[i]):
+    while i < len(lines) and not TOP.match(lines[i]) and not re.match(r"(module|data|record|ruleset|pub data|pub record|mutual)\s", lines[i]):
         head.append(lines[i])
         i += 1
     # a comment right above the first block belongs to it
@@ -213,7 +244,7 @@ def blocks_of(text):
     blocks, cur = [], tail
     started = False
     for line in lines[i:]:
-        if TOP.match(line) or re.match(r"(module|data|record|ruleset|pub data|pub record)\b", line):
+        if TOP.match(line) or re.match(r"(module|data|record|ruleset|pub data|pub record)\s", line):
             pre = []
             while started and cur and (cur[-1].startswith("--") or not cur[-1].strip()):
                 pre.insert(0, cur.pop())
@@ -240,6 +271,14 @@ def turn(folder, crate, path, f):
     if "tie.close" not in text:
         f.say("no tie.close")
         return False
+    # a name for the way back to an earlier place: its fields are fields of any later one
+    for m in list(re.finditer(r"^(?:abbrev )?(" + NAME + r") : tie\.[A-Za-z0-9_-]+(?: (?:invariant|decreases)-[\w-]+)* → tie\.[A-Za-z0-9_-]+(?: (?:invariant|decreases)-[\w-]+)*\n\1 (\w+) = \2(?:\.before)+\n", text, re.M)):
+        text = text.replace(m[0], "")
+        n = re.escape(m[1])
+        text = re.sub(r"\(" + n + r" ([\w'₀₁-]+)(?:\.before)*\)\.", r"\1.", text)
+        text = re.sub(r"\b(let " + NAME + r" = )" + n + r" ([\w'₀₁-]+)(?:\.before)* in", r"\1\2.before in", text)
+        if re.search(r"(?<![\w'-])" + n + r"(?![\w'-])", text):
+            f.say(f"{m[1]} is used in another way")
     head, blocks = blocks_of(text)
     final = [b for b in blocks if "tie.close" in b]
     m = re.search(r"tie\.close\s*\(?\s*(?:\(?tie\.spec)?(.*)", "\n".join(strip_comment(final[0])[1]), re.S)
@@ -290,13 +329,41 @@ def turn(folder, crate, path, f):
         places.add(new)
         return new
 
+    lemma_at = {}
+    for com, code, n in helpers:
+        pm = re.search(r"^" + NAME + r" : \((" + NAME + r") : tie\.([A-Z][A-Za-z0-9_-]*)", code[0]) if n else None
+        if pm:
+            lemma_at[n] = norm(pm[2])
+
+    def distance(a, b):
+        k = 0
+        while a and a != b:
+            a = f.parent.get(a)
+            k += 1
+        return k if a else None
+
+    def on_place(s):
+        """A lemma over a place is given that place."""
+        for n, q in lemma_at.items():
+            def one(m):
+                if f.goal:
+                    places.add(f.place.get(q, q))
+                    return f"{n} (goal.at.{f.goal} c).{f.place.get(q, q)}"
+                k = distance(f.here, q) if f.here else None
+                return f"{n} {f.head}{'.before' * k}" if k is not None else m[0]
+
+            s = re.sub(r"(?<![\w'.◌-])(?<!let )" + re.escape(n) + r" ([a-zA-Z_][\w'₀₁₂₃-]*(?:\.before)*)(?![\w'.₀₁₂₃-])", one, s)
+        return s
+
     def rest(code):
         """Replaces tie types and paths in code."""
         s = code
         # a name for a place before this one is c: each step is a field of c
         alias = {}
+        C = re.escape(f.head)
+        s = on_place(s)
         while True:
-            m = re.search(r"let ([a-zA-Z_][\w'₀₁₂₃-]*) = ((?:c|" + "|".join(map(re.escape, alias)) + r")(?:\.before)+) in\s+" if alias else r"let ([a-zA-Z_][\w'₀₁₂₃-]*) = (c(?:\.before)+) in\s+", s)
+            m = re.search(r"let ([a-zA-Z_][\w'₀₁₂₃-]*) = ((?:" + C + "|" + "|".join(map(re.escape, alias)) + r")(?:\.before)+) in\s+" if alias else r"let ([a-zA-Z_][\w'₀₁₂₃-]*) = (" + C + r"(?:\.before)+) in\s+", s)
             if not m:
                 break
             at = m[2].split(".")
@@ -304,16 +371,18 @@ def turn(folder, crate, path, f):
             alias[m[1]] = chain
             a = re.escape(m[1])
             s = s[: m.start()] + s[m.end():]
-            s = re.sub(r"(?<![\w'.◌-])" + a + r"(?=\.(?!before)[a-zA-Z])", "c", s)
-            s = re.sub(r"(?<![\w'.◌-])" + a + r"(?![\w'₀₁₂₃-])", ".".join(chain), s)
+            s = re.sub(r"(?<![\w'.◌-])" + a + r"(?=\.(?!before)[a-zA-Z])", f.head, s)
+            s = re.sub(r"(?<![\w'.◌-])(?<!let )" + a + r"(?![\w'₀₁₂₃-])", ".".join(chain), s)
         # a name for the arguments, too
         while True:
-            m = re.search(r"let ([a-zA-Z_][\w'₀₁₂₃-]*) = (c(?:\.before)*\.args) in\s+", s)
+            m = re.search(r"let ([a-zA-Z_][\w'₀₁₂₃-]*) = (" + C + r"(?:\.before)*\.args) in\s+", s)
             if not m:
                 break
             s = s[: m.start()] + s[m.end():]
             s = re.sub(r"(?<![\w'.◌-])" + re.escape(m[1]) + r"(?=\.[a-zA-Z])", m[2], s)
         f.alias = {m[1]: norm(m[2]) for m in re.finditer(r"let (" + NAME + r") = [\w'-]+(?:\.before)*\.([\w'-]+) in", s) if norm(m[2]) in f.callee}
+        f.told_by = {m[1]: norm(m[2]) for m in re.finditer(r"let (" + NAME + r") = [\w'-]+(?:\.before)*\.([\w'-]+)\.ensures in", s) if norm(m[2]) in f.callee}
+        f.left_by = {m[1]: norm(m[2]) for m in re.finditer(r"let (" + NAME + r") = [\w'-]+(?:\.before)*\.([\w'-]+)\.new in", s) if norm(m[2]) in f.callee}
         # the lengths of arrays in a parameter are said plainly
         s = re.sub(r"simp length-map at (c\.(?:before\.)*well-formed)", r"\1", s)
         s = re.sub(r"tie\.([A-Z][A-Za-z0-9_-]*)((?:\s+(?:" + "|".join(map(re.escape, sorted(invnames, key=len, reverse=True))) + r"))*)" if invnames else r"tie\.([A-Z][A-Za-z0-9_-]*)()",
@@ -353,15 +422,21 @@ def turn(folder, crate, path, f):
         before = t[:i].rstrip()
         if before and not re.search(r"(\bin|\$)$", before):
             return body
-        inner, parts, deep, last = t[i + 1 : -1], [], 0, 0
-        for k, ch in enumerate(inner):
-            deep += ch in "([{"
-            deep -= ch in ")]}"
-            if ch == "," and deep == 0:
-                parts.append(inner[last:k].strip())
-                last = k + 1
-        if inner[last:].strip():
-            parts.append(inner[last:].strip())
+        def split(inner):
+            parts, deep, last = [], 0, 0
+            for k, ch in enumerate(inner):
+                deep += ch in "([{"
+                deep -= ch in ")]}"
+                if ch == "," and deep == 0:
+                    parts.append(inner[last:k].strip())
+                    last = k + 1
+            if inner[last:].strip():
+                parts.append(inner[last:].strip())
+            return parts
+
+        parts = split(t[i + 1 : -1])
+        while len(parts) < len(labels_) and parts and re.fullmatch(r"\(.*\)", parts[-1], re.S) and len(split(parts[-1][1:-1])) > 1:
+            parts = parts[:-1] + split(parts[-1][1:-1])
         if len(parts) != len(labels_):
             return body
         return t[:i] + "record { " + "; ".join(f"{l} = {q}" for l, q in zip(labels_, parts)) + " }"
@@ -421,15 +496,23 @@ def turn(folder, crate, path, f):
     for k, (com, code, n) in enumerate(helpers):
         if k in picked:
             continue
-        pm = re.search(r"\(c : tie\.([A-Z][A-Za-z0-9_-]*)", code[0])
-        f.here = norm(pm[1]) if pm else None
-        aout.append("\n".join(com + [rest("\n".join(code))]))
+        pm = re.search(r"\((" + NAME + r") : tie\.([A-Z][A-Za-z0-9_-]*)", code[0])
+        f.here = norm(pm[2]) if pm else None
+        f.head = pm[1] if pm else "c"
+        f.goal = None
+        body_ = rest("\n".join(code))
+        if n in lemma_at:
+            # its own signature and equation name the place itself
+            body_ = re.sub(r"^(" + re.escape(n) + r") " + re.escape(f.head) + r"(?:\.before)+", r"\1 " + f.head, body_, flags=re.M)
+        aout.append("\n".join(com + [body_]))
+        f.head = "c"
     kept = 0
     for a in order:
         com, code, _ = needs[a]
         new = mapping[a]
         idx = next((k for k, (o, n) in enumerate(jneeds) if n == new), None)
         f.here = norm(f.d["asked_at"][idx][0]) if idx is not None else None
+        f.goal = new
         eqs = "\n".join(code[1:])
         m2 = re.match(r"((?:unfolding [^\n]*\n)?)" + re.escape(a) + r"\s+(\w+)((?: κs)?)\s*=\s*(.*)\Z", eqs, re.S)
         if m2 and not m2[1] and re.sub(r"\s+", " ", m2[4]).strip() in ("search rules", "search needs", "λ κs. search rules"):

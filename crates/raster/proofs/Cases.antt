@@ -1,5 +1,5 @@
 -- Rule 9.11. Assumes nothing.
-use Rattle.std.proofs.Common.{◌≡◌, ℕ, List, [], ◌∷◌, pos, arith}
+use Rattle.std.proofs.Common.{◌≡◌, [], ◌∷◌, pos, arith}
 use lib.Ieee.{binary32, of_int}
 use Rattle.ieee.proofs.Cuts.{cut_le}
 use Rattle.vector.specs.Three.{◌·◌}

@@ -1,5 +1,5 @@
 -- A nibble times 17, as a float from 0 to 1 and back, is itself: each of the sixteen is computed. So a texel shown as it is needs no floats. Assumes nothing.
-use Rattle.std.proofs.Common.{◌≡◌, ℕ, zero, suc, ◌*◌, ◌/◌, ◌%◌, ◌<◌, Bool, true, ◌&&◌, T, eqb, refl, ap, ◌∙◌, arith, eqb→eq}
+use Rattle.std.proofs.Common.{◌≡◌, ℕ, zero, suc, ◌*◌, ◌/◌, ◌%◌, ◌<◌, Bool, true, ◌&&◌, T, eqb, arith, eqb→eq}
 use native.Mathlib.Decide.{dec_lt}
 use lib.Ieee.{of_int, of_bits, mul, add, div, lt}
 use lib.Ieee.Fits.{and_l, and_r}

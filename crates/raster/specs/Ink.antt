@@ -1,5 +1,5 @@
 -- What a float triangle leaves at a pixel that it shows at: a colour, or nothing. The original, from the store of the depth to `write_pixel`. Each operation rounds once, in the source's order. Definitions only.
-use Rattle.std.specs.Prelude.{ℕ, ◌+◌, ◌*◌, ◌/◌, ◌≤◌, Bool, cond, List, Float}
+use Rattle.std.specs.Prelude.{ℕ, ◌+◌, ◌*◌, ◌/◌, ◌≤◌, cond, List, Float}
 use Rattle.ieee.specs.Range.{clamp_of, tiny_of}
 use Rattle.ieee.specs.Number.{unit_of}
 use Rattle.ieee.specs.Casts as casts
