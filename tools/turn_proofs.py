@@ -288,8 +288,11 @@ def turn(folder, crate, path, f):
         places.add(new)
         return new
 
-    def rest(code):
-        """Replaces tie types and paths in code."""
+    chain_of = {old: parent for old, parent, *_ in f.d["places"]}
+    at_old = {new: a[0] for (old, new), a in zip(jneeds, f.d.get("asked_at", []))}
+
+    def rest(code, goal=None):
+        """Replaces tie types and paths in code. In the answer to a goal, c.before.before itself is (goal.at.GOAL c).PLACE."""
         s = code
         # a name for a place before this one is c: each step is a field of c
         alias = {}
@@ -318,7 +321,26 @@ def turn(folder, crate, path, f):
                    lambda m: placed(m[1]), s)
         s = PATH.sub(lambda m: m[0] if m[1] in ("tie", "goal", "Rattle", "lib", "mathlib", "native", "borrow", "denote", "contract") else f.path(m[1], m[2][1:].split(".")), s)
         # a test of `!x` says of x itself what it was
-        s = re.sub(r"not-(?:true|false) (?:\([^()]*\)|[^\s()]+) (c\.if-not-[^\s()]+\.(?:true|false))", r"\1", s)
+        # the test of `!f(x)` says today what f(x) is; that of a field, `!s.held`, is still of the `not`
+        calls = set(f.callees) | {x for _, _, (_, sn), callee, _ in f.d["places"] if callee for x in (sn, sn.split("-")[-1])}
+        s = re.sub(r"not-(?:true|false) (?:\([^()]*\)|[^\s()]+) (c\.if-not-([^\s().]+)\.(?:true|false))", lambda m: m[1] if m[2] in calls or re.sub(r"-\d+$", "", m[2]) in calls else m[0], s)
+        s = s.replace(".type-inv", ".type_inv")
+
+        def at_place(m):
+            place = at_old.get(goal)
+            for _ in range(m[0].count(".before")):
+                place = chain_of.get(place) if place else None
+            if not place:
+                return m[0]
+            new = f.place.get(norm(place), place)
+            return f"(goal.at.{goal} c).{new}"
+        if goal in at_old:
+            s = re.sub(r"(?<![\w'.◌-])c(?:\.before)+(?![\w'.-])", at_place, s)
+            # a lemma's own place says which it is
+            for _, co, n in helpers:
+                hm = re.search(r":\s*\(\w+ : tie\.([A-Z][A-Za-z0-9_-]*)", co[0])
+                if n and hm:
+                    s = re.sub(r"(?<![\w'.◌-])" + re.escape(n) + r" \(goal\.at\." + re.escape(goal) + r" c\)\.[\w-]+", lambda m: f"{n} (goal.at.{goal} c).{placed(hm[1])}", s)
         return s
 
     def labelled(new, body):
@@ -350,14 +372,31 @@ def turn(folder, crate, path, f):
         before = t[:i].rstrip()
         if before and not re.search(r"(\bin|\$)$", before):
             return body
-        inner, parts, deep, last = t[i + 1 : -1], [], 0, 0
-        for k, ch in enumerate(inner):
-            deep += ch in "([{"
-            deep -= ch in ")]}"
-            if ch == "," and deep == 0:
-                parts.append(inner[last:k].strip())
-                last = k + 1
-        parts.append(inner[last:].strip())
+
+        def split(inner):
+            parts, deep, last = [], 0, 0
+            for k, ch in enumerate(inner):
+                deep += ch in "([{"
+                deep -= ch in ")]}"
+                if ch == "," and deep == 0:
+                    parts.append(inner[last:k].strip())
+                    last = k + 1
+            parts.append(inner[last:].strip())
+            return [q for q in parts if q]
+
+        def whole(q):
+            deep = 0
+            for k, ch in enumerate(q):
+                deep += ch == "("
+                deep -= ch == ")"
+                if deep == 0:
+                    return k == len(q) - 1 and q[0] == "("
+            return False
+
+        parts = split(t[i + 1 : -1])
+        # (a, (b, (c, d))) is (a, b, c, d)
+        while len(parts) < len(labels_) and whole(parts[-1]) and len(split(parts[-1][1:-1])) > 1:
+            parts = parts[:-1] + split(parts[-1][1:-1])
         if len(parts) != len(labels_):
             return body
         return t[:i] + "record { " + "; ".join(f"{l} = {q}" for l, q in zip(labels_, parts)) + " }"
@@ -432,10 +471,10 @@ def turn(folder, crate, path, f):
             continue
         kept += 1
         if m2:
-            aout.append("\n".join(com + [f"pub {new} : goal.{new}", m2[1] + f"{new} {m2[2]} =" + (" " if "\n" not in eqs[m2.start(4) - 1 : m2.start(4)] else "\n    ") + labelled(new, rest(m2[4]).rstrip())]))
+            aout.append("\n".join(com + [f"pub {new} : goal.{new}", m2[1] + f"{new} {m2[2]} =" + (" " if "\n" not in eqs[m2.start(4) - 1 : m2.start(4)] else "\n    ") + labelled(new, rest(m2[4], new).rstrip())]))
         else:
             f.say(f"{a}: not one equation")
-            aout.append("\n".join(com + [f"pub {new} : goal.{new}", re.sub(r"^" + re.escape(a) + r"\b", new, rest(eqs), flags=re.M)]))
+            aout.append("\n".join(com + [f"pub {new} : goal.{new}", re.sub(r"^" + re.escape(a) + r"\b", new, rest(eqs, new), flags=re.M)]))
     uses = [l for l in head.split("\n") if l.startswith("use ")]
     uses = [l for l in uses if not re.search(r"\.(Statement|Tie)(\.| as)", l)]
     comment = [l for l in head.split("\n") if l.startswith("--")]
@@ -458,9 +497,6 @@ def turn(folder, crate, path, f):
                 out.append(f"use {m[1]}.{{{', '.join(keep)}}}")
         return out
 
-    # the test of `!f(x)` says today what f(x) is, and not what `not f(x)` is
-    calls = set(f.callee_new)
-    aout = [re.sub(r"\bnot-(?:true|false) _ ([\w'-]+\.(?:[\w'-]+\.)*if-not-([\w']+)(?:-[\w'-]+)?\.(?:true|false))", lambda m: m[1] if m[2] in calls else m[0], a) for a in aout]
     wrote = []
     hs = ["\n".join(c + [re.sub(r"^(abbrev |unfoldable )?(?!pub )", r"\1pub ", co[0], count=1) if not co[0].startswith(("pub ", "abbrev pub", "unfoldable pub")) else co[0]] + co[1:]) for k, (c, co, n) in enumerate(helpers) if k in picked]
     if iout:
