@@ -45,13 +45,16 @@ pub bounds_of-requires-then-area-lt0 : goal.bounds_of-requires-then-area-lt0
 bounds_of-requires-then-area-lt0 c = back_placed (goal.at.bounds_of-requires-then-area-lt0 c).After-turned-back
 
 pub draw_rows-requires-then-area-lt0 : goal.draw_rows-requires-then-area-lt0
-draw_rows-requires-then-area-lt0 c = let t = c.args.t in record { ready = record {
-        placed = back_placed (goal.at.draw_rows-requires-then-area-lt0 c).After-turned-back;
-        is-area = read_as (area-fits (back_placed (goal.at.draw_rows-requires-then-area-lt0 c).After-turned-back)) c.area_of-area-then-area-lt0.ensures;
-        upward = rw (c.turned-back.ensures, turned_area t) (turned_up (area_of t) (down (goal.at.draw_rows-requires-then-area-lt0 c).Then-area-lt0));
-        of-plane = c.requires.plane_len;
-        of-depth = c.requires.depth_len;
-      }; boxed = c.bounds_of-then-area-lt0.ensures }
+draw_rows-requires-then-area-lt0 c = let t = c.args.t in record {
+  ready = record {
+    placed = back_placed (goal.at.draw_rows-requires-then-area-lt0 c).After-turned-back;
+    is-area = read_as (area-fits (back_placed (goal.at.draw_rows-requires-then-area-lt0 c).After-turned-back)) c.area_of-area-then-area-lt0.ensures;
+    upward = rw (c.turned-back.ensures, turned_area t) (turned_up (area_of t) (down (goal.at.draw_rows-requires-then-area-lt0 c).Then-area-lt0));
+    of-plane = c.requires.plane_len;
+    of-depth = c.requires.depth_len;
+  };
+  boxed = c.bounds_of-then-area-lt0.ensures;
+}
 
 pub returns-then-area-lt0 : goal.returns-then-area-lt0
 unfolding tri_depths tri_plane
