@@ -1,10 +1,8 @@
 use Prim.Native.Nat.{ℕ, ◌+◌, ◌-◌, ◌<◌}
 use mathlib.Core.Path.{◌≡◌, sym, ap, ◌∙◌}
 use mathlib.Core.Bool.{true, false}
-use mathlib.Core.Logic.{⊎_elim}
 use native.Mathlib.Omega.{arith}
 use borrow.Author.Rules.{rules}
-use borrow.Author.Tests.{not-true, not-false}
 use lib.ListN.{length, drop, get_or, length-set, length-map}
 use Rattle.store.specs.Slots.{no_slot, fresh}
 use Rattle.formed.specs.Tests.{differ, number_of, hits}
@@ -62,10 +60,10 @@ loop-i-preserved-then-s c = let ss = c.args.slots in
           simp length-set (omega arith),
           (
             elim c.if-marks-mark.branch [
-              then-marks-mark+then-times-gt1+then-not-fresh_from w ↦ w.ok-is ∙ differ_not ss i j next here held (here_on ∙ sym w.fresh_from.ensures ∙ w.if-not-fresh_from.true)
-            | then-marks-mark+then-times-gt1+else-not-fresh_from w ↦ w.ok-is ∙ inv.1.1.1.0 ∙ differ_same ss i j next here held (here_on ∙ sym w.fresh_from.ensures ∙ w.if-not-fresh_from.false)
-            | then-marks-mark+else-times-gt1 w ↦ w.ok-is ∙ inv.1.1.1.0 ∙ differ_same ss i j next here held (once_fresh ss i j next here (omega (arith, w.if-times-gt1.false, w.times.ensures, ap (hits number) all)))
-            | else-marks-mark w ↦ w.ok-is ∙ inv.1.1.1.0 ∙ differ_same ss i j next here held (inv.1.1.1.1 number w.if-marks-mark.false)
+              | then-marks-mark+then-times-gt1+then-not-fresh_from w ↦ w.ok-is ∙ differ_not ss i j next here held (here_on ∙ sym w.fresh_from.ensures ∙ w.if-not-fresh_from.true)
+              | then-marks-mark+then-times-gt1+else-not-fresh_from w ↦ w.ok-is ∙ inv.1.1.1.0 ∙ differ_same ss i j next here held (here_on ∙ sym w.fresh_from.ensures ∙ w.if-not-fresh_from.false)
+              | then-marks-mark+else-times-gt1 w ↦ w.ok-is ∙ inv.1.1.1.0 ∙ differ_same ss i j next here held (once_fresh ss i j next here (omega (arith, w.if-times-gt1.false, w.times.ensures, ap (hits number) all)))
+              | else-marks-mark w ↦ w.ok-is ∙ inv.1.1.1.0 ∙ differ_same ss i j next here held (inv.1.1.1.1 number w.if-marks-mark.false)
             ],
             marked-held ss i j next here c.loop-i.marks inv.1.1.0 held inv.1.1.1.1,
           ),

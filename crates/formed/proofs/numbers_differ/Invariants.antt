@@ -1,5 +1,5 @@
 -- `formed::numbers_differ` meets its contract. The invariant: `ok` is the test of the slots from index i on, and if the mark of a number is not set, none of them has it.
-use Prim.Native.Nat.{◌-◌, ◌≤◌}
+use Prim.Native.Nat.{◌≤◌}
 use mathlib.Core.Path.{◌≡◌}
 use lib.ListN.{length, drop}
 use Rattle.formed.specs.Tests.{differ}

@@ -1,9 +1,7 @@
 -- `formed::slots_ok` meets its contract: it is both tests, and if the first slot is not held, there are no numbers.
 use mathlib.Core.Path.{sym, ◌∙◌}
-use mathlib.Core.Bool.{true, false}
 use native.Mathlib.Omega.{arith}
-use borrow.Author.Tests.{not-true, not-false}
-use Rattle.formed.specs.Tests.{laid_ok}
+use borrow.Author.Tests.{not-true}
 use Rattle.formed.proofs.Split.{split}
 use Rattle.formed.proofs.Marks.{differ_unheld}
 use Rattle.formed.proofs.slots_ok.Goals as goal

@@ -1,5 +1,4 @@
-use Prim.Native.Nat.{◌-◌, ◌<◌}
-use mathlib.Core.Logic.{⊎_elim}
+use Prim.Native.Nat.{◌<◌}
 use native.Mathlib.Omega.{arith}
 use lib.ListN.{length}
 use Rattle.formed.proofs.Marks.{hit, no_hit, hits_end}
@@ -29,8 +28,8 @@ loop-i-preserved c = let args = c.args in
     let i = c.loop-i.i in
     let here : i < length args.numbers.now = omega arith in
     elim c.if-numbers-i.branch [
-      then-numbers-i w ↦ (omega arith, (c.loop-i.invariant.1.0, (omega arith, omega (arith, hit args.number args.numbers.now i here w.if-numbers-i.true))))
-    | else-numbers-i w ↦ (omega arith, (c.loop-i.invariant.1.0, (omega arith, omega (arith, no_hit args.number args.numbers.now i here w.if-numbers-i.false))))
+      | then-numbers-i w ↦ (omega arith, (c.loop-i.invariant.1.0, (omega arith, omega (arith, hit args.number args.numbers.now i here w.if-numbers-i.true))))
+      | else-numbers-i w ↦ (omega arith, (c.loop-i.invariant.1.0, (omega arith, omega (arith, no_hit args.number args.numbers.now i here w.if-numbers-i.false))))
     ]
 
 pub returns : goal.returns

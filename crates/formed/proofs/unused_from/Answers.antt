@@ -1,8 +1,6 @@
-use Prim.Native.Nat.{◌-◌}
 use mathlib.Core.Path.{refl, sym, ap, ◌∙◌}
 use native.Mathlib.Omega.{arith}
 use borrow.Author.Rules.{rules}
-use borrow.Author.Tests.{not-true, not-false}
 use Rattle.store.specs.Slots.{unused}
 use Rattle.store.proofs.Walk.{unused-is, slots_end}
 use Rattle.formed.proofs.unused_from.Goals as goal
