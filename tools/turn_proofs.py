@@ -463,7 +463,7 @@ def turn(folder, crate, path, f):
         return out
 
     # the test of `!f(x)` says today what f(x) is, and not what `not f(x)` is
-    calls = set(f.callee_new)
+    calls = {new for old in f.callee for new in f.steps.get(old, ())}
     aout = [re.sub(r"\bnot-(?:true|false) _ ([\w'-]+\.(?:[\w'-]+\.)*if-not-([\w']+)(?:-[\w'-]+)?\.(?:true|false))", lambda m: m[1] if m[2] in calls else m[0], a) for a in aout]
     wrote = []
     hs = ["\n".join(c + [re.sub(r"^(abbrev |unfoldable )?(?!pub )", r"\1pub ", co[0], count=1) if not co[0].startswith(("pub ", "abbrev pub", "unfoldable pub")) else co[0]] + co[1:]) for k, (c, co, n) in enumerate(helpers) if k in picked]
