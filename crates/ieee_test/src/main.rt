@@ -5,7 +5,8 @@
 
 ghost use Rattle.std.specs.Prelude.{◌+◌, ◌*◌, ◌≤◌, length};
 
-use libc::{STDIN_FILENO, STDOUT_FILENO};
+use std::io;
+use std::io::Stdout;
 
 fn pattern(bytes: &[u8], k: usize) -> u32
     requires { k * 4 + 4 ≤ length bytes.now }
@@ -60,38 +61,38 @@ fn digest_of(k: u32, bytes: &[u8]) -> u64 {
     h
 }
 
-fn line(name: &[u8], k: u32, bytes: &[u8]) {
-    io::write_all(STDOUT_FILENO, name);
-    io::write_all(STDOUT_FILENO, b" ");
-    io::print_hex(STDOUT_FILENO, digest_of(k, bytes), 16);
-    io::write_all(STDOUT_FILENO, b"\n");
+fn line(out: Stdout, name: &[u8], k: u32, bytes: &[u8]) -> io::Result<()> {
+    console::write_all(out, name)?;
+    console::write_all(out, b" ")?;
+    console::print_hex(out, digest_of(k, bytes), 16)?;
+    console::write_all(out, b"\n")
 }
 
-fn lines(bytes: &[u8]) {
-    line(b"float_of", 0, bytes);
-    line(b"is_finite", 1, bytes);
-    line(b"clamp01", 2, bytes);
-    line(b"max0", 3, bytes);
-    line(b"abs", 4, bytes);
-    line(b"tiny", 5, bytes);
-    line(b"floor_i32", 6, bytes);
-    line(b"ceil_i32", 7, bytes);
-    line(b"byte", 8, bytes);
-    line(b"unit_byte", 9, bytes);
-    line(b"texel1", 10, bytes);
-    line(b"texel7", 11, bytes);
-    line(b"texel1024", 12, bytes);
-    line(b"first", 13, bytes);
-    line(b"past", 14, bytes);
-    line(b"sqrt", 15, bytes);
+fn lines(out: Stdout, bytes: &[u8]) -> io::Result<()> {
+    line(out, b"float_of", 0, bytes)?;
+    line(out, b"is_finite", 1, bytes)?;
+    line(out, b"clamp01", 2, bytes)?;
+    line(out, b"max0", 3, bytes)?;
+    line(out, b"abs", 4, bytes)?;
+    line(out, b"tiny", 5, bytes)?;
+    line(out, b"floor_i32", 6, bytes)?;
+    line(out, b"ceil_i32", 7, bytes)?;
+    line(out, b"byte", 8, bytes)?;
+    line(out, b"unit_byte", 9, bytes)?;
+    line(out, b"texel1", 10, bytes)?;
+    line(out, b"texel7", 11, bytes)?;
+    line(out, b"texel1024", 12, bytes)?;
+    line(out, b"first", 13, bytes)?;
+    line(out, b"past", 14, bytes)?;
+    line(out, b"sqrt", 15, bytes)
 }
 
-fn replayed(bytes: &mut [u8]) {
-    let got = io::read_full(STDIN_FILENO, bytes);
-    lines(&bytes[..got]);
+fn replayed(rt: &HostRuntime, bytes: &mut [u8]) -> io::Result<()> {
+    let got = console::read_full(&mut rt.stdin(), bytes)?;
+    lines(rt.stdout(), &bytes[..got])
 }
 
-fn main() {
+fn main(rt: HostRuntime) -> io::Result<()> {
     let mut bytes = [0u8; 524288];
-    replayed(&mut bytes);
+    replayed(&rt, &mut bytes)
 }

@@ -5,8 +5,9 @@
 ghost use Rattle.std.specs.Prelude.{◌≡◌, ◌+◌, ◌*◌, ◌<◌, ◌≤◌, length};
 ghost use Rattle.screen.specs.Plane.{plane_bytes};
 
-use libc::{STDIN_FILENO, STDOUT_FILENO};
 use screen::plane::{Read, Rgba};
+use std::io;
+use std::io::Stdout;
 
 const COLOURS: usize = 24;
 
@@ -18,44 +19,45 @@ fn wide(x: u8) -> u64 {
     x as u64
 }
 
-fn hex_byte(x: u8) {
-    io::print_hex(STDOUT_FILENO, wide(x), 2);
+fn hex_byte(out: Stdout, x: u8) -> io::Result<()> {
+    console::print_hex(out, wide(x), 2)
 }
 
-fn text(s: &[u8]) {
-    io::write_all(STDOUT_FILENO, s);
+fn text(out: Stdout, s: &[u8]) -> io::Result<()> {
+    console::write_all(out, s)
 }
 
 // One line: every channel value at one place of the pattern.
-fn dither_line(x: usize, y: usize) {
+fn dither_line(out: Stdout, x: usize, y: usize) -> io::Result<()> {
     let t = screen::dither::threshold(x, y);
     for c in 0..CHANNEL_VALUES {
-        hex_byte(screen::dither::rgb555_dither((c % 256) as u8, t));
+        hex_byte(out, screen::dither::rgb555_dither((c % 256) as u8, t))?;
     }
-    text(b"\n");
+    text(out, b"\n")
 }
 
-fn dither_lines() {
+fn dither_lines(out: Stdout) -> io::Result<()> {
     for k in 0..CELLS {
-        dither_line(k % 4, k / 4);
+        dither_line(out, k % 4, k / 4)?;
     }
+    Ok(())
 }
 
-fn show_pixel(plane: &[u8], x: usize, y: usize) {
-    text(b" ");
+fn show_pixel(out: Stdout, plane: &[u8], x: usize, y: usize) -> io::Result<()> {
+    text(out, b" ")?;
     match screen::plane::pixel(plane, x, y) {
         Read::Colour(c) => {
-            hex_byte(c.r);
-            hex_byte(c.g);
-            hex_byte(c.b);
-            hex_byte(c.a);
+            hex_byte(out, c.r)?;
+            hex_byte(out, c.g)?;
+            hex_byte(out, c.b)?;
+            hex_byte(out, c.a)
         }
-        Read::WrongLength => text(b"wrong length"),
+        Read::WrongLength => text(out, b"wrong length"),
     }
 }
 
 // One line: the plane filled with colour k of the list.
-fn fill_line(plane: &mut [u8], colours: &[u8], k: usize)
+fn fill_line(out: Stdout, plane: &mut [u8], colours: &[u8], k: usize) -> io::Result<()>
     requires plane_len { length plane.old ≡ plane_bytes }
     requires k_in_bounds { k * 4 + 4 ≤ length colours.now }
 {
@@ -67,61 +69,69 @@ fn fill_line(plane: &mut [u8], colours: &[u8], k: usize)
         a: colours[i],
     };
     screen::plane::fill(plane, rgba);
-    io::print_hex(STDOUT_FILENO, digest::bytes(digest::START, plane), 16);
-    show_pixel(plane, 0, 0);
-    show_pixel(plane, 319, 0);
-    show_pixel(plane, 0, 239);
-    show_pixel(plane, 319, 239);
-    show_pixel(plane, 2, 3);
-    show_pixel(plane, 161, 77);
-    show_pixel(plane, 320, 0);
-    show_pixel(plane, 0, 240);
-    text(b"\n");
+    console::print_hex(out, digest::bytes(digest::START, plane), 16)?;
+    show_pixel(out, plane, 0, 0)?;
+    show_pixel(out, plane, 319, 0)?;
+    show_pixel(out, plane, 0, 239)?;
+    show_pixel(out, plane, 319, 239)?;
+    show_pixel(out, plane, 2, 3)?;
+    show_pixel(out, plane, 161, 77)?;
+    show_pixel(out, plane, 320, 0)?;
+    show_pixel(out, plane, 0, 240)?;
+    text(out, b"\n")
 }
 
-fn fill_lines(plane: &mut [u8], colours: &[u8])
+fn fill_lines(out: Stdout, plane: &mut [u8], colours: &[u8]) -> io::Result<()>
     requires plane_len { length plane.old ≡ plane_bytes }
     requires colours_len { length colours.now ≡ 96 }
 {
     for k in 0..COLOURS {
-        fill_line(plane, colours, k);
+        fill_line(out, plane, colours, k)?;
     }
+    Ok(())
 }
 
 // The lengths are tested here, so that the program's main has nothing to show of its arrays.
-fn screen_lines(plane: &mut [u8], colours: &[u8]) {
+fn screen_lines(out: Stdout, plane: &mut [u8], colours: &[u8]) -> io::Result<()> {
     if plane.len() != screen::plane::PLANE_BYTES {
-        return;
+        return Ok(());
     }
     if colours.len() != COLOURS * 4 {
-        return;
+        return Ok(());
     }
-    fill_lines(plane, colours);
-    text(b"a plane of 96 bytes:");
-    show_pixel(colours, 0, 0);
-    text(b"\n");
+    fill_lines(out, plane, colours)?;
+    text(out, b"a plane of 96 bytes:")?;
+    show_pixel(out, colours, 0, 0)?;
+    text(out, b"\n")
 }
 
-fn depth_line(depth: &mut [i32], depth_f32: &mut [f32]) {
+fn depth_line(out: Stdout, depth: &mut [i32], depth_f32: &mut [f32]) -> io::Result<()> {
     screen::depths::refill_ints(depth);
     screen::depths::refill_floats(depth_f32);
-    io::print_hex(STDOUT_FILENO, digest::ints(digest::START, depth), 16);
-    text(b" ");
-    io::print_hex(STDOUT_FILENO, digest::floats(digest::START, depth_f32), 16);
-    text(b"\n");
+    console::print_hex(out, digest::ints(digest::START, depth), 16)?;
+    text(out, b" ")?;
+    console::print_hex(out, digest::floats(digest::START, depth_f32), 16)?;
+    text(out, b"\n")
 }
 
-fn lines(colours: &mut [u8], plane: &mut [u8], depth: &mut [i32], depth_f32: &mut [f32]) {
-    io::read_full(STDIN_FILENO, colours);
-    dither_lines();
-    screen_lines(plane, colours);
-    depth_line(depth, depth_f32);
+fn lines(
+    rt: &HostRuntime,
+    colours: &mut [u8],
+    plane: &mut [u8],
+    depth: &mut [i32],
+    depth_f32: &mut [f32],
+) -> io::Result<()> {
+    let out = rt.stdout();
+    console::read_full(&mut rt.stdin(), colours)?;
+    dither_lines(out)?;
+    screen_lines(out, plane, colours)?;
+    depth_line(out, depth, depth_f32)
 }
 
-fn main() {
+fn main(rt: HostRuntime) -> io::Result<()> {
     let mut colours = [0u8; 96];
     let mut plane = [0u8; 307200];
     let mut depth = [0i32; 76800];
     let mut depth_f32 = [0f32; 76800];
-    lines(&mut colours, &mut plane, &mut depth, &mut depth_f32);
+    lines(&rt, &mut colours, &mut plane, &mut depth, &mut depth_f32)
 }

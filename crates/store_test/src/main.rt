@@ -5,9 +5,10 @@
 // writes both the input and what has to be printed.
 #![tactic(auto)]
 
-ghost use Rattle.std.specs.Prelude.{◌≡◌, ◌<◌, ◌≤◌, length};
+ghost use Rattle.std.specs.Prelude.{◌≡◌, ◌<◌, ◌≤◌, length, IfOk};
 
-use libc::STDOUT_FILENO;
+use std::io;
+use std::io::Stdout;
 use store::{Kind, Room, SLOTS, Slot};
 
 const FILL: u32 = 3735928559;
@@ -91,13 +92,13 @@ fn answer(room: Room) -> u64 {
     }
 }
 
-fn report(room: Room, slots: [Slot; SLOTS], words: &[u32]) {
-    io::print_decimal(STDOUT_FILENO, answer(room));
-    io::write_all(STDOUT_FILENO, b" ");
-    io::print_hex(STDOUT_FILENO, digest_slots(slots), 16);
-    io::write_all(STDOUT_FILENO, b" ");
-    io::print_hex(STDOUT_FILENO, digest::words(digest::START, words), 16);
-    io::write_all(STDOUT_FILENO, b"\n");
+fn report(out: Stdout, room: Room, slots: [Slot; SLOTS], words: &[u32]) -> io::Result<()> {
+    console::print_decimal(out, answer(room))?;
+    console::write_all(out, b" ")?;
+    console::print_hex(out, digest_slots(slots), 16)?;
+    console::write_all(out, b" ")?;
+    console::print_hex(out, digest::words(digest::START, words), 16)?;
+    console::write_all(out, b"\n")
 }
 
 // What passes from record to record: the slots, the store's size, and the next record's place.
@@ -110,6 +111,7 @@ struct Next {
 
 // An upload is handed on once all that `store::upload` asks has been tested.
 fn upload(
+    out: Stdout,
     kind: Kind,
     slots: [Slot; SLOTS],
     store: &mut [u32],
@@ -117,26 +119,26 @@ fn upload(
     width: u32,
     height: u32,
     words: &[u32],
-) -> [Slot; SLOTS]
+) -> io::Result<[Slot; SLOTS]>
     requires { length store.old ≤ 4096 }
 {
     if !formed::slots_ok(kind, slots, store.len()) {
-        io::write_all(STDOUT_FILENO, b"malformed\n");
-        return slots;
+        console::write_all(out, b"malformed\n")?;
+        return Ok(slots);
     }
     if !formed::sides_ok(kind, width, height) {
-        io::write_all(STDOUT_FILENO, b"sides\n");
-        return slots;
+        console::write_all(out, b"sides\n")?;
+        return Ok(slots);
     }
     if words.len() != store::slots::area(kind, width, height) {
-        io::write_all(STDOUT_FILENO, b"length\n");
-        return slots;
+        console::write_all(out, b"length\n")?;
+        return Ok(slots);
     }
     let r = store::upload(kind, slots, store, number, width, height, words);
     let after = r.slots;
     let room = r.room;
-    report(room, after, store);
-    after
+    report(out, room, after, store)?;
+    Ok(after)
 }
 
 // A store of this size anew.
@@ -151,11 +153,18 @@ fn begin(size: usize, at: usize, store: &mut [u32]) -> Next
     }
 }
 
-fn record(slots: [Slot; SLOTS], size: usize, at: usize, words: &[u32], store: &mut [u32]) -> Next
+fn record(
+    out: Stdout,
+    slots: [Slot; SLOTS],
+    size: usize,
+    at: usize,
+    words: &[u32],
+    store: &mut [u32],
+) -> io::Result<Next>
     requires at_in_bounds { at < length words.now }
     requires size_in_bounds { size ≤ length store.old }
     requires store_len_bound { length store.old ≤ 4096 }
-    ensures { (at < result.at) × (result.size ≤ length store.new) }
+    ensures { IfOk result (λ next. (at < next.at) × (next.size ≤ length store.new)) }
 {
     let end = Next {
         slots,
@@ -163,18 +172,19 @@ fn record(slots: [Slot; SLOTS], size: usize, at: usize, words: &[u32], store: &m
         at: words.len(),
     };
     if words.len() - at < 5 {
-        return end;
+        return Ok(end);
     }
     let from = at + 5;
     let count = count_of(words[at + 4]);
     if words.len() - from < count {
-        return end;
+        return Ok(end);
     }
     let to = from + count;
     if words[at] == 2 {
-        return begin(count_of(words[at + 1]), to, store);
+        return Ok(begin(count_of(words[at + 1]), to, store));
     }
     let after = upload(
+        out,
         kind_of(words[at]),
         slots,
         &mut store[..size],
@@ -182,33 +192,34 @@ fn record(slots: [Slot; SLOTS], size: usize, at: usize, words: &[u32], store: &m
         words[at + 2],
         words[at + 3],
         &words[from..to],
-    );
-    Next {
+    )?;
+    Ok(Next {
         slots: after,
         size,
         at: to,
-    }
+    })
 }
 
-fn replay(words: &[u32], store: &mut [u32])
+fn replay(out: Stdout, words: &[u32], store: &mut [u32]) -> io::Result<()>
     requires { length store.old ≤ 4096 }
 {
     let mut slots = [NO_SLOT; SLOTS];
     let mut size = 0;
     let mut at = 0;
     while at < words.len() {
-        let next = record(slots, size, at, words, store);
+        let next = record(out, slots, size, at, words, store)?;
         slots = next.slots;
         size = next.size;
         at = next.at;
     }
+    Ok(())
 }
 
-fn main() {
+fn main(rt: HostRuntime) -> io::Result<()> {
     let mut bytes = [0u8; 131072];
     let mut words = [0u32; 32768];
     let mut store = [0u32; 4096];
-    let got = io::read_full(0, &mut bytes);
+    let got = console::read_full(&mut rt.stdin(), &mut bytes)?;
     let n = decode(&bytes[..got], &mut words);
-    replay(&words[..n], &mut store);
+    replay(rt.stdout(), &words[..n], &mut store)
 }

@@ -1,5 +1,5 @@
-// Triangles, for C, so that a test can draw them on buffers of its own: each export reads flat
-// records and calls one drawing function of `flat` or `raster`.
+// Triangles on flat records, so that a test can draw them on buffers of its own: each function reads
+// them and calls one drawing function of `flat` or `raster`. `triangle_c_c` has them for C.
 #![tactic(auto)]
 
 ghost use Rattle.std.specs.Prelude.{◌≡◌, ◌≤◌, length};
@@ -13,8 +13,7 @@ use raster::ink::Color;
 use verdict::Verdict;
 
 // 0 if the triangle is drawn, else one more than the index of the word that is refused.
-#[unsafe(no_mangle)]
-pub extern "C" fn triangle_flat(plane: &mut [u8], depth: &mut [i32], p: &[u32]) -> u32
+pub fn triangle_flat(plane: &mut [u8], depth: &mut [i32], p: &[u32]) -> u32
     requires plane_len { length plane.old ≡ plane_bytes }
     requires depth_len { length depth.old ≡ pixels }
     requires p_len { length p.now ≡ 11 }
@@ -54,8 +53,7 @@ fn flat_of(x: &[f32]) -> Flat {
 }
 
 // Three vertices of 16. `flat` has four floats, or none if the colours of the corners count.
-#[unsafe(no_mangle)]
-pub extern "C" fn triangle_transformed(
+pub fn triangle_transformed(
     plane: &mut [u8],
     depth_f32: &mut [f32],
     x: &[f32],
@@ -71,8 +69,7 @@ pub extern "C" fn triangle_transformed(
 }
 
 // Three vertices of 16, and the texels as received, two to a word.
-#[unsafe(no_mangle)]
-pub extern "C" fn triangle_textured(
+pub fn triangle_textured(
     plane: &mut [u8],
     depth_f32: &mut [f32],
     x: &[f32],

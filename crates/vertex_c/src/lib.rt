@@ -1,5 +1,5 @@
-// What happens to a corner, for C, so that a test can run it on any input: each export reads one
-// flat record and calls one function of `vector`, `light` or `clip`.
+// What happens to a corner, on flat records, so that a test can run it on any input: each function
+// reads one record and calls one function of `vector`, `light` or `clip`. `vertex_c_c` has them for C.
 #![tactic(auto)]
 
 mod polygon;
@@ -11,8 +11,7 @@ use vector::matrix::Matrix;
 use vector::normal::{Inverse, Matrix3};
 
 // Matrix 16, position 4.
-#[unsafe(no_mangle)]
-pub extern "C" fn vertex_transform(x: &[f32], out: &mut [f32; 4])
+pub fn vertex_transform(x: &[f32], out: &mut [f32; 4])
     requires { 20 ≤ length x.now }
 {
     let m = record::matrices(x);
@@ -21,8 +20,7 @@ pub extern "C" fn vertex_transform(x: &[f32], out: &mut [f32; 4])
 }
 
 // Two matrices of 16.
-#[unsafe(no_mangle)]
-pub extern "C" fn vertex_multiply(x: &[f32], out: &mut [f32; 16])
+pub fn vertex_multiply(x: &[f32], out: &mut [f32; 16])
     requires { 32 ≤ length x.now }
 {
     let m = record::matrices(x);
@@ -36,8 +34,7 @@ fn nine(m: Matrix3) -> [f32; 9] {
 }
 
 // A matrix of 16. If there is no inverse, the answer is false and nothing is written.
-#[unsafe(no_mangle)]
-pub extern "C" fn vertex_inverse(x: &[f32], out: &mut [f32; 9]) -> bool
+pub fn vertex_inverse(x: &[f32], out: &mut [f32; 9]) -> bool
     requires { 16 ≤ length x.now }
 {
     let cells = record::sixteen(x);
@@ -52,8 +49,7 @@ pub extern "C" fn vertex_inverse(x: &[f32], out: &mut [f32; 9]) -> bool
 }
 
 // Three by three matrix 9, normal 3.
-#[unsafe(no_mangle)]
-pub extern "C" fn vertex_apply(x: &[f32], out: &mut [f32; 3])
+pub fn vertex_apply(x: &[f32], out: &mut [f32; 3])
     requires { 12 ≤ length x.now }
 {
     let m = Matrix3 {
@@ -70,16 +66,14 @@ pub extern "C" fn vertex_apply(x: &[f32], out: &mut [f32; 3])
     *out = vector::normal::apply_normal_matrix(m, record::three(x, 9));
 }
 
-#[unsafe(no_mangle)]
-pub extern "C" fn vertex_normalize(x: &[f32], out: &mut [f32; 3])
+pub fn vertex_normalize(x: &[f32], out: &mut [f32; 3])
     requires { 3 ≤ length x.now }
 {
     *out = vector::three::normalize(record::three(x, 0));
 }
 
 // Albedo 4, position 3, normal 3, eight lights of 16.
-#[unsafe(no_mangle)]
-pub extern "C" fn vertex_shade(x: &[f32], out: &mut [f32; 4])
+pub fn vertex_shade(x: &[f32], out: &mut [f32; 4])
     requires { 138 ≤ length x.now }
 {
     let albedo = record::four(x, 0);
@@ -90,16 +84,14 @@ pub extern "C" fn vertex_shade(x: &[f32], out: &mut [f32; 4])
 }
 
 // A position of 4.
-#[unsafe(no_mangle)]
-pub extern "C" fn vertex_distance(x: &[f32], plane: usize) -> f32
+pub fn vertex_distance(x: &[f32], plane: usize) -> f32
     requires { 4 ≤ length x.now }
 {
     clip::vertex::clip_distance(record::corner(record::four(x, 0)), plane)
 }
 
 // `count` vertices of 16 go in, and the answer says how many come out.
-#[unsafe(no_mangle)]
-pub extern "C" fn vertex_clip(x: &[f32], count: usize, plane: usize, out: &mut [f32; 448]) -> usize
+pub fn vertex_clip(x: &[f32], count: usize, plane: usize, out: &mut [f32; 448]) -> usize
     requires { (count ≤ 19) × (count * 16 ≤ length x.now) }
     ensures { result ≤ 28 }
 {
@@ -108,8 +100,7 @@ pub extern "C" fn vertex_clip(x: &[f32], count: usize, plane: usize, out: &mut [
 }
 
 // Three vertices of 16 go in, and the answer says how many come out.
-#[unsafe(no_mangle)]
-pub extern "C" fn vertex_clip_all(x: &[f32], out: &mut [f32; 448]) -> usize
+pub fn vertex_clip_all(x: &[f32], out: &mut [f32; 448]) -> usize
     requires { 48 ≤ length x.now }
     ensures { result ≤ 28 }
 {
