@@ -112,6 +112,9 @@ class Function:
             # a name that a let gave to a call
             out.append("ensures")
             i = self.label(out, segs, 1, self.labels.get(self.callee.get(self.alias[head]), ([], []))[1])
+        if head in self.alias and len(segs) > 1 and segs[0] in ("auto", "new"):
+            out.append(segs[0])
+            i = self.after(out, segs, 1, self.alias[head])
         if head in self.told_by and segs and re.fullmatch(r"\d", segs[0]):
             # a name that a let gave to what a call ensures
             i = self.label(out, segs, 0, self.labels.get(self.callee.get(self.told_by[head]), ([], []))[1])
@@ -410,8 +413,16 @@ def turn(folder, crate, path, f):
         if len(labels_) < 2 or not all(labels_):
             return body
         t = body.rstrip()
+
+        def both(t):
+            """A product that a lemma gives becomes a record, too."""
+            m = re.match(r"((?:let .*? in\s+)*)(.*)\Z", t, re.S)
+            if not re.match(r"returns\b", new) or re.match(r"(rw|simp|omega|search|record|elim|subst|cc|\()\b?", m[2]):
+                return t
+            return f"{m[1]}let both = {m[2]} in\n    record {{ " + "; ".join(f"{l} = both.{k}" for k, l in enumerate(labels_)) + " }"
+
         if not t.endswith(")"):
-            return body
+            return both(t)
         deep, i = 0, len(t) - 1
         while i >= 0:
             deep += t[i] == ")"
@@ -438,7 +449,7 @@ def turn(folder, crate, path, f):
         while len(parts) < len(labels_) and parts and re.fullmatch(r"\(.*\)", parts[-1], re.S) and len(split(parts[-1][1:-1])) > 1:
             parts = parts[:-1] + split(parts[-1][1:-1])
         if len(parts) != len(labels_):
-            return body
+            return both(t)
         return t[:i] + "record { " + "; ".join(f"{l} = {q}" for l, q in zip(labels_, parts)) + " }"
 
     # invariants

@@ -6,7 +6,6 @@ use Rattle.clip.specs.Vertices.{full}
 use Rattle.raster.specs.declared.Flat.TheVariants as flat
 use Rattle.raster.specs.Ink as ink
 use Rattle.raster.specs.Triangles.{transformed_depths, transformed_plane, textured_depths, textured_plane}
-use Rattle.stroke.specs.declared.Texture.{Texture}
 use Rattle.stroke.specs.declared.Brush.{Brush}
 use Rattle.stroke.specs.declared.Brush.TheVariants.{Flat, Blended, Textured}
 
