@@ -417,7 +417,7 @@ def turn(folder, crate, path, f):
         def both(t):
             """A product that a lemma gives becomes a record, too."""
             m = re.match(r"((?:let .*? in\s+)*)(.*)\Z", t, re.S)
-            if not re.match(r"returns\b", new) or re.match(r"(rw|simp|omega|search|record|elim|subst|cc|\()\b?", m[2]):
+            if not re.match(r"returns\b", new) or re.match(r"(?:rw|simp|omega|search|record|elim|subst|cc)\b|\(", m[2]):
                 return t
             return f"{m[1]}let both = {m[2]} in\n    record {{ " + "; ".join(f"{l} = both.{k}" for k, l in enumerate(labels_)) + " }"
 
