@@ -76,7 +76,7 @@ class Function:
                 self.arm_of[norm(old)] = data["arms"][i]
         self.here = None
         self.alias = {}
-        self.told_by, self.left_by = {}, {}
+        self.told_by, self.left_by, self.asked_by = {}, {}, set()
         self.head = "c"
         self.goal = None
         self.params = {norm(o.split(".")[-1]): n.split(".")[-1] for o, n in data["args"] if o.startswith(".args ")}
@@ -118,6 +118,8 @@ class Function:
         if head in self.told_by and segs and re.fullmatch(r"\d", segs[0]):
             # a name that a let gave to what a call ensures
             i = self.label(out, segs, 0, self.labels.get(self.callee.get(self.told_by[head]), ([], []))[1])
+        if head in self.asked_by and segs and re.fullmatch(r"\d", segs[0]):
+            i = self.label(out, segs, 0, self.own[0])
         if head in self.left_by and segs and re.fullmatch(r"\d", segs[0]):
             i = self.after(out, segs, 0, self.left_by[head])
         while i < len(segs):
@@ -385,6 +387,7 @@ def turn(folder, crate, path, f):
             s = re.sub(r"(?<![\w'.◌-])" + re.escape(m[1]) + r"(?=\.[a-zA-Z])", m[2], s)
         f.alias = {m[1]: norm(m[2]) for m in re.finditer(r"let (" + NAME + r") = [\w'-]+(?:\.before)*\.([\w'-]+) in", s) if norm(m[2]) in f.callee}
         f.told_by = {m[1]: norm(m[2]) for m in re.finditer(r"let (" + NAME + r") = [\w'-]+(?:\.before)*\.([\w'-]+)\.ensures in", s) if norm(m[2]) in f.callee}
+        f.asked_by = {m[1] for m in re.finditer(r"let (" + NAME + r") = [\w'-]+(?:\.before)*\.(?:requires|pre) in", s)}
         f.left_by = {m[1]: norm(m[2]) for m in re.finditer(r"let (" + NAME + r") = [\w'-]+(?:\.before)*\.([\w'-]+)\.new in", s) if norm(m[2]) in f.callee}
         # the lengths of arrays in a parameter are said plainly
         s = re.sub(r"simp length-map at (c\.(?:before\.)*well-formed)", r"\1", s)

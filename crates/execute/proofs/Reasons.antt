@@ -63,10 +63,10 @@ module _ (Q : Verdict → Type 0) (done : Q Done) (range : (i : ℕ) → i ≤ 2
 
   inputs_so : (p : List ℕ) (normal textured : Bool) → Q (inputs_of p normal textured)
   unfolding inputs_of
-  inputs_so p true true = each_so _ (from_so p 2 8 (omega arith)) (from_so p 11 8 (omega arith)) (from_so p 20 8 (omega arith))
-  inputs_so p true false = each_so _ (from_so p 0 6 (omega arith)) (from_so p 7 6 (omega arith)) (from_so p 14 6 (omega arith))
-  inputs_so p false true = each_so _ (from_so p 2 5 (omega arith)) (from_so p 8 5 (omega arith)) (from_so p 14 5 (omega arith))
-  inputs_so p false false = each_so _ (from_so p 0 3 (omega arith)) (from_so p 4 3 (omega arith)) (from_so p 8 3 (omega arith))
+  inputs_so p true true = each_so (λ i. finite_from p (first_of true true i) 8) (from_so p 2 8 (omega arith)) (from_so p 11 8 (omega arith)) (from_so p 20 8 (omega arith))
+  inputs_so p true false = each_so (λ i. finite_from p (first_of true false i) 6) (from_so p 0 6 (omega arith)) (from_so p 7 6 (omega arith)) (from_so p 14 6 (omega arith))
+  inputs_so p false true = each_so (λ i. finite_from p (first_of false true i) 5) (from_so p 2 5 (omega arith)) (from_so p 8 5 (omega arith)) (from_so p 14 5 (omega arith))
+  inputs_so p false false = each_so (λ i. finite_from p (first_of false false i) 3) (from_so p 0 3 (omega arith)) (from_so p 4 3 (omega arith)) (from_so p 8 3 (omega arith))
 
   vertex_so : (p : List ℕ) (v : ClipVertex) (o : ℕ) → o ≤ 14 → Q (plain_vertex p v o)
   unfolding plain_vertex
@@ -74,11 +74,11 @@ module _ (Q : Verdict → Type 0) (done : Q Done) (range : (i : ℕ) → i ≤ 2
 
   plain_so : (p : List ℕ) (tri : List ClipVertex) → Q (plain_of p tri)
   unfolding plain_of
-  plain_so p tri = each_so _ (vertex_so p (corner tri 0) 2 (omega arith)) (vertex_so p (corner tri 1) 8 (omega arith)) (vertex_so p (corner tri 2) 14 (omega arith))
+  plain_so p tri = each_so (λ i. plain_vertex p (corner tri i) (first_of false true i)) (vertex_so p (corner tri 0) 2 (omega arith)) (vertex_so p (corner tri 1) 8 (omega arith)) (vertex_so p (corner tri 2) 14 (omega arith))
 
   all_reached_so : (tri : List ClipVertex) (normal : Bool) → Q (each_of (λ i. reached_of (corner tri i) (first_of normal false i)))
-  all_reached_so tri true = each_so _ (reached_so (corner tri 0) 0 (omega arith)) (reached_so (corner tri 1) 7 (omega arith)) (reached_so (corner tri 2) 14 (omega arith))
-  all_reached_so tri false = each_so _ (reached_so (corner tri 0) 0 (omega arith)) (reached_so (corner tri 1) 4 (omega arith)) (reached_so (corner tri 2) 8 (omega arith))
+  all_reached_so tri true = each_so (λ i. reached_of (corner tri i) (first_of true false i)) (reached_so (corner tri 0) 0 (omega arith)) (reached_so (corner tri 1) 7 (omega arith)) (reached_so (corner tri 2) 14 (omega arith))
+  all_reached_so tri false = each_so (λ i. reached_of (corner tri i) (first_of false false i)) (reached_so (corner tri 0) 0 (omega arith)) (reached_so (corner tri 1) 4 (omega arith)) (reached_so (corner tri 2) 8 (omega arith))
 
   -- a textured draw, after its mode and its number
   pub checked_so : (p : List ℕ) (normal : Bool) (m : List Float) → Q (checked_verdict p normal m)
@@ -99,8 +99,9 @@ module _ (Q : Verdict → Type 0) (done : Q Done) (range : (i : ℕ) → i ≤ 2
   flat_so : (p : List ℕ) → Q (flat_verdict p)
   unfolding flat_verdict
   flat_so p =
-      out_so p 0 _ (omega arith)
-      (out_so p 1 _ (omega arith) (out_so p 3 _ (omega arith) (out_so p 4 _ (omega arith) (out_so p 6 _ (omega arith) (out_so p 7 _ (omega arith) done)))))
+      out_so p 0 (1 ∷ 3 ∷ 4 ∷ 6 ∷ 7 ∷ []) (omega arith)
+      (out_so p 1 (3 ∷ 4 ∷ 6 ∷ 7 ∷ []) (omega arith)
+      (out_so p 3 (4 ∷ 6 ∷ 7 ∷ []) (omega arith) (out_so p 4 (6 ∷ 7 ∷ []) (omega arith) (out_so p 6 (7 ∷ []) (omega arith) (out_so p 7 [] (omega arith) done)))))
 
   pub fit_so : (p : List ℕ) (w h : ℕ) → Q (fit_verdict p w h)
   unfolding fit_verdict
@@ -110,7 +111,7 @@ module _ (Q : Verdict → Type 0) (done : Q Done) (range : (i : ℕ) → i ≤ 2
       either Q (eqb (get_or p 3 0) 0) _ _ wide
       (either Q (eqb (get_or p 4 0) 0) _ _ high
       (either Q (leb (get_or p 1 0 + get_or p 3 0) w) _ _
-      (either Q (leb (get_or p 2 0 + get_or p 4 0) h) _ _ (out_so p 5 _ (omega arith) (out_so p 6 _ (omega arith) done)) high) wide))
+      (either Q (leb (get_or p 2 0 + get_or p 4 0) h) _ _ (out_so p 5 (6 ∷ []) (omega arith) (out_so p 6 [] (omega arith) done)) high) wide))
 
   module _ (long : Q wrong_length) (no_such : Q unknown) (held : Q (Refused NotHeld 0)) where
     -- ---- those that set

@@ -59,7 +59,7 @@ returns-3 c =
     let r = ran c.before.before.before in
     let taken_in = r.before.before.before.before.before.before.before in
     let switches = taken_in.before in
-    fed _ _ _ _ _ _ _ _ r.feed.ensures taken_in.state-in.ensures (passed switches.before.switches-ok.ensures switches.if1.left) c.before.number_of_lem.ensures c.state-out.ensures
+    fed _ _ _ _ _ _ _ _ r.feed.ensures taken_in.state-in.ensures (passed switches.before.switches-ok.ensures switches.if1.left) c.before.number_of.ensures c.state-out.ensures
 
 pub vpu-feed-spec : {M : Type 1} → statement M
 vpu-feed-spec =

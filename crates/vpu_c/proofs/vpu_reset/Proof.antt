@@ -31,7 +31,7 @@ same-length-5 c = search rules
 returns : tie.Need-returns
 returns c =
     let r = c.before.before.before.before.before.before.before.before.before.before.before.before in
-    put_out_lem r.reset.ensures c.before.number_of_lem.ensures c.state-out.ensures
+    put_out_lem r.reset.ensures c.before.number_of.ensures c.state-out.ensures
 
 pub vpu-reset-spec : {M : Type 1} → statement M
 vpu-reset-spec =
