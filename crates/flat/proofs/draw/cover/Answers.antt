@@ -62,7 +62,7 @@ returns-then-d-old c = let k = c.args.y * width + c.args.x in
     let fd : SFits w32 d = sfits_of c.weighted-d.type_inv in
     let fo : SFits w32 (get_or D k (pos 0)) = search rules in
     let n : lt_z d (get_or D k (pos 0)) ≡ true = simp to_z-of_z at c.if-d-old.true in
-    rw (to_z-of_z w32 d fd)
+    simp to_z-of_z
     (drawn-new c.args.t c.args.x c.args.y k D c.args.plane.now c.requires.x_lt_width.0 refl c.requires.y_value d _ (is-depth (goal.at.returns-then-d-old c).After-weighted-d) n (omega (arith, c.requires.ready.of-depth, c.requires.x_lt_width.0, c.requires.x_lt_width.1)) c.write_pixel.ensures)
 
 pub returns-else-d-old : goal.returns-else-d-old
