@@ -168,7 +168,8 @@ fn numbers_differ(slots: [Slot; SLOTS]) -> bool
         if s.held {
             let mark = s.number as usize % MARKS;
             if marks[mark] {
-                if 1 < times(&numbers, s.number) {
+                let again = 1 < times(&numbers, s.number);
+                if again {
                     if !fresh_from(slots, i + 1, s.number) {
                         ok = false;
                     }

@@ -11,7 +11,7 @@ done : (c : In-Done) → flat_verdict c.args.p.now ≡ Done
 done c = sym c.verdict_of-verdict.ensures ∙ c.in-Done.is
 
 pub draw_tri-requires : goal.draw_tri-requires
-draw_tri-requires c = let known = c.shared_slice_known-1.given in
+draw_tri-requires c = let known = c.type_inv.p in
     record { placed = rw c.tri_of.ensures (done-placed c.args.p.now known (done (goal.at.draw_tri-requires c).In-Done)); plane_len = c.requires.plane_len; depth_len = c.requires.depth_len }
 
 pub returns-in-Done : goal.returns-in-Done

@@ -9,7 +9,7 @@ use Rattle.formed.specs.Tests.{differ, number_of, hits}
 use Rattle.store.proofs.Walk.{slots_end}
 use Rattle.formed.proofs.Marks.{marked_unheld, marked-held, differ_unheld, differ_not, differ_same, once_fresh}
 use Rattle.formed.proofs.numbers_differ.Goals as goal
-use Rattle.formed.proofs.numbers_differ.Goals.{then-marks-mark+then-times-gt1+then-not-fresh_from, then-marks-mark+then-times-gt1+else-not-fresh_from, then-marks-mark+else-times-gt1, else-marks-mark}
+use Rattle.formed.proofs.numbers_differ.Goals.{then-marks-mark+then-again+then-not-fresh_from, then-marks-mark+then-again+else-not-fresh_from, then-marks-mark+else-again, else-marks-mark}
 
 pub loop-i-init : goal.loop-i-init
 loop-i-init c = let none = slots_end c.args.slots 64 (omega arith) in
@@ -27,8 +27,8 @@ bounds-slots-i c = omega arith
 pub bounds-marks-mark : goal.bounds-marks-mark
 bounds-marks-mark c = omega arith
 
-pub times-requires : goal.times-requires
-times-requires c = ap length c.numbers_of-numbers.ensures ∙ length-map c.args.slots number_of ∙ c.loop-i.invariant.1.0
+pub times-again-requires : goal.times-again-requires
+times-again-requires c = ap length c.numbers_of-numbers.ensures ∙ length-map c.args.slots number_of ∙ c.loop-i.invariant.1.0
 
 pub overflow_add-i : goal.overflow_add-i
 overflow_add-i c = omega arith
@@ -60,9 +60,9 @@ loop-i-preserved-then-s c = let ss = c.args.slots in
           simp length-set (omega arith),
           (
             elim c.if-marks-mark.branch [
-              | then-marks-mark+then-times-gt1+then-not-fresh_from w ↦ w.ok-is ∙ differ_not ss i j next here held (here_on ∙ sym w.fresh_from.ensures ∙ w.if-not-fresh_from.true)
-              | then-marks-mark+then-times-gt1+else-not-fresh_from w ↦ w.ok-is ∙ inv.1.1.1.0 ∙ differ_same ss i j next here held (here_on ∙ sym w.fresh_from.ensures ∙ w.if-not-fresh_from.false)
-              | then-marks-mark+else-times-gt1 w ↦ w.ok-is ∙ inv.1.1.1.0 ∙ differ_same ss i j next here held (once_fresh ss i j next here (omega (arith, w.if-times-gt1.false, w.times.ensures, ap (hits number) all)))
+              | then-marks-mark+then-again+then-not-fresh_from w ↦ w.ok-is ∙ differ_not ss i j next here held (here_on ∙ sym w.fresh_from.ensures ∙ w.if-not-fresh_from.true)
+              | then-marks-mark+then-again+else-not-fresh_from w ↦ w.ok-is ∙ inv.1.1.1.0 ∙ differ_same ss i j next here held (here_on ∙ sym w.fresh_from.ensures ∙ w.if-not-fresh_from.false)
+              | then-marks-mark+else-again w ↦ w.ok-is ∙ inv.1.1.1.0 ∙ differ_same ss i j next here held (once_fresh ss i j next here (omega (arith, w.if-again.false, w.times-again.ensures, ap (hits number) all)))
               | else-marks-mark w ↦ w.ok-is ∙ inv.1.1.1.0 ∙ differ_same ss i j next here held (inv.1.1.1.1 number w.if-marks-mark.false)
             ],
             marked-held ss i j next here c.loop-i.marks inv.1.1.0 held inv.1.1.1.1,

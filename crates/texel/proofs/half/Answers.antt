@@ -7,7 +7,7 @@ use Rattle.texel.proofs.half.Goals as goal
 
 pub returns-then-n-eq0 : goal.returns-then-n-eq0
 unfolding half_of
-returns-then-n-eq0 c = (rw (eq-eqb _ _ c.if-n-eq0.true), omega (arith, c.shared_slice_known-1.given (c.args.n / 2)))
+returns-then-n-eq0 c = (rw (eq-eqb _ _ c.if-n-eq0.true), omega (arith, c.type_inv.texels (c.args.n / 2)))
 
 pub returns : goal.returns
 unfolding half_of

@@ -9,7 +9,7 @@ use lib.Signed.{lt_z}
 use mir.Syntax.{w32, w64}
 use mir.Val.{SFits, to_z, of_z}
 use mir.ValLaws.{to_z-of_z}
-use borrow.Author.Rules.{sfits_of}
+use borrow.Author.Rules.{rules, sfits_of}
 use Rattle.laws.proofs.Bound as B
 use Rattle.screen.specs.Plane.{width}
 use Rattle.flat.specs.Tri.{area_of, weight0, weight1, weight2, depth_at}
@@ -60,9 +60,9 @@ returns-then-d-old c = let k = c.args.y * width + c.args.x in
     let D = c.args.depth.now in
     let d = c.weighted-d.result in
     let fd : SFits w32 d = sfits_of c.weighted-d.type_inv in
-    let fo : SFits w32 (get_or D k (pos 0)) = sfits_of c.old-1.given in
+    let fo : SFits w32 (get_or D k (pos 0)) = search rules in
     let n : lt_z d (get_or D k (pos 0)) ≡ true = simp to_z-of_z at c.if-d-old.true in
-    rw (to_z-of_z w32 d fd)
+    simp to_z-of_z
     (drawn-new c.args.t c.args.x c.args.y k D c.args.plane.now c.requires.x_lt_width.0 refl c.requires.y_value d _ (is-depth (goal.at.returns-then-d-old c).After-weighted-d) n (omega (arith, c.requires.ready.of-depth, c.requires.x_lt_width.0, c.requires.x_lt_width.1)) c.write_pixel.ensures)
 
 pub returns-else-d-old : goal.returns-else-d-old
@@ -70,6 +70,6 @@ returns-else-d-old c = let k = c.args.y * width + c.args.x in
     let D = c.args.depth.now in
     let d = c.weighted-d.result in
     let fd : SFits w32 d = sfits_of c.weighted-d.type_inv in
-    let fo : SFits w32 (get_or D k (pos 0)) = sfits_of c.old-1.given in
+    let fo : SFits w32 (get_or D k (pos 0)) = search rules in
     let n : lt_z d (get_or D k (pos 0)) ≡ false = simp to_z-of_z at c.if-d-old.false in
     drawn-behind c.args.t c.args.x c.args.y k D c.args.plane.now c.requires.x_lt_width.0 refl c.requires.y_value (rw (← is-depth (goal.at.returns-else-d-old c).After-weighted-d) n)
