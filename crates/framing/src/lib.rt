@@ -70,6 +70,7 @@ pub fn ended(f: Frame, verdict: Verdict) -> Frame
 }
 
 // Opcode in the top 8 bits, count in the low 24.
+#[tactic(auto, using(crate::proofs::Words::header_many))]
 fn header(f: Frame, word: u32) -> Frame
     ensures { result ≡ header_frame f word }
 {

@@ -1,8 +1,8 @@
 -- What comparisons of floats say of them. Assumes nothing.
-use Rattle.std.proofs.Common.{◌≡◌, ℕ, ◌*◌, true, false, not, T, eqb, sym, refl, arith}
+use Rattle.std.proofs.Common.{◌≡◌, ℕ, ◌*◌, ◌%◌, ◌<◌, ◌∙◌, true, false, not, T, eqb, sym, refl, arith, lt-ltb}
 use lib.Dec.{eqb_refl}
 use lib.Ieee.{Float, nan, inf, fin, binary32, up, down, lt, ne, div, is_nan, of_bits}
-use lib.Ieee.Bits.{is_true}
+use lib.Ieee.Bits.{is_true, nan_bits_is, nan_bits_above}
 use Rattle.ieee.specs.Units.{zero32}
 
 pub differ : {A : Type 0} → true ≡ false → A
@@ -30,3 +30,13 @@ differs (fin false m e) = simp (is_true (eqb (m * up e * down e) (m * up e * dow
 pub zero_by_zero : div binary32 zero32 zero32 ≡ nan
 unfolding div of_bits
 zero_by_zero = refl
+
+only_nan : (x : Float) → is_nan x ≡ true → nan ≡ x
+unfolding is_nan
+only_nan nan h = refl
+only_nan (inf s) h = cc
+only_nan (fin s m e) h = cc
+
+-- above the infinity's pattern, once the sign is cut off, lie the NaNs'
+pub above_is_nan : (b : ℕ) → 0x7f80_0000 < b % 0x8000_0000 → div binary32 zero32 zero32 ≡ of_bits binary32 b
+above_is_nan b h = zero_by_zero ∙ only_nan (of_bits binary32 b) (sym (nan_bits_is binary32 b) ∙ nan_bits_above binary32 b ∙ lt-ltb _ _ h)

@@ -6,6 +6,7 @@ ghost use Rattle.ieee.specs.Words.{floats_of};
 
 // The value of a bit pattern. `f32::from_bits` is undefined at a NaN's pattern, which is one above
 // the infinity's once the sign is cut off; there the answer is 0.0 / 0.0.
+#[tactic(auto, using(crate::proofs::Compare::above_is_nan))]
 pub fn float_of(bits: u32) -> f32
     ensures { result ≡ from_bits binary32 bits }
 {

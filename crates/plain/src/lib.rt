@@ -241,6 +241,7 @@ pub fn state_out(s: State) -> VpuState
     }
 }
 
+#[tactic(auto, using(crate::proofs::Switches::light_found, crate::proofs::Switches::light_passed))]
 fn lights_ok(lights: [VpuLight; 8]) -> bool
     ensures { result ≡ all_of light_switch lights }
 {

@@ -51,6 +51,7 @@ fn mode_verdict(p: &[u32]) -> Verdict
     verdict::and_then(payload::at_most(p, 0, 1), payload::at_most(p, 1, 1))
 }
 
+#[tactic(auto, unfolding(crate::specs::Settings::with_mode))]
 fn with_mode(s: Settings, p: &[u32]) -> Settings
     requires { length p.now ≡ 2 }
     ensures { result ≡ with_mode s p.now }

@@ -1,8 +1,7 @@
 use mathlib.Core.Path.{refl, sym, ◌∙◌}
 use native.Mathlib.Omega.{arith}
 use borrow.Author.Rules.{rules}
-use borrow.Author.Tests.{le-leb, lt-leb}
-use Rattle.settings.proofs.All.{all_passed, all_found, all_end}
+use Rattle.settings.proofs.All.{all_end}
 use Rattle.plain.specs.Plain.{light_switch}
 use Rattle.plain.proofs.lights_ok.Goals as goal
 
@@ -15,17 +14,11 @@ offset_bounds-lights-i c = omega arith
 pub bounds-lights-i : goal.bounds-lights-i
 bounds-lights-i c = omega arith
 
-pub returns-then-l-gt1 : goal.returns-then-l-gt1
-returns-then-l-gt1 c = sym (c.loop-i.invariant.2 ∙ all_found light_switch c.args.lights c.loop-i.i _ (omega arith) (lt-leb _ 1 c.if-l-gt1.true))
-
 pub overflow_add-i : goal.overflow_add-i
 overflow_add-i c = omega arith
 
 pub loop-i-smaller : goal.loop-i-smaller
 loop-i-smaller c = omega arith
-
-pub loop-i-preserved : goal.loop-i-preserved
-loop-i-preserved c = (omega arith, c.loop-i.invariant.1, c.loop-i.invariant.2 ∙ all_passed light_switch c.args.lights c.loop-i.i _ (omega arith) (le-leb _ 1 c.if-l-gt1.false))
 
 pub returns : goal.returns
 returns c = sym (c.loop-i.invariant.2 ∙ all_end light_switch c.args.lights c.loop-i.i (omega arith))

@@ -1,4 +1,4 @@
-use Rattle.std.proofs.Common.{◌≡◌, ℕ, ◌+◌, ◌-◌, ◌<◌, ◌≤◌, List, ◌++◌, length, get_or, drop, set, sym, refl, ap, ◌∙◌, subst, append-nil, zero-add, arith, length-set, drop_of_length-le, take_all}
+use Rattle.std.proofs.Common.{◌≡◌, ℕ, ◌+◌, ◌<◌, ◌≤◌, List, ◌++◌, length, get_or, drop, set, sym, refl, ap, ◌∙◌, subst, append-nil, zero-add, arith, length-set, drop_of_length-le, take_all}
 use lib.ListN.{length-map, get_or-map}
 use lib.Seq.{paste, paste-zero}
 use lib.Ieee.{Float, binary32, of_bits}

@@ -1,4 +1,4 @@
-use Rattle.std.proofs.Common.{ℕ, ◌+◌, ◌-◌, ◌*◌, ◌<◌, ◌≤◌, subst, inl, inr, eq-or-lt_of_le, arith}
+use Rattle.std.proofs.Common.{ℕ, ◌+◌, ◌*◌, ◌<◌, ◌≤◌, subst, inl, inr, eq-or-lt_of_le, arith}
 use Rattle.ieee.proofs.NearRoot.{next_square, square_le}
 use Rattle.ieee.proofs.digits.near_root.Goals as goal
 use Rattle.ieee.proofs.digits.near_root.Goals.{In-loop-r}
