@@ -133,13 +133,7 @@ fn name(out: Stdout, kind: u32) -> io::Result<()> {
     }
 }
 
-fn line(
-    out: Stdout,
-    kind: u32,
-    plane: &[u8],
-    depth: &[i32],
-    depth_f32: &[f32],
-) -> io::Result<()> {
+fn line(out: Stdout, kind: u32, plane: &[u8], depth: &[i32], depth_f32: &[f32]) -> io::Result<()> {
     name(out, kind)?;
     show(out, digest::bytes(digest::START, plane))?;
     show(out, digest::ints(digest::START, depth))?;
