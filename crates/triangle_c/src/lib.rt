@@ -53,12 +53,7 @@ fn flat_of(x: &[f32]) -> Flat {
 }
 
 // Three vertices of 16. `flat` has four floats, or none if the colours of the corners count.
-pub fn triangle_transformed(
-    plane: &mut [u8],
-    depth_f32: &mut [f32],
-    x: &[f32],
-    flat: &[f32],
-)
+pub fn triangle_transformed(plane: &mut [u8], depth_f32: &mut [f32], x: &[f32], flat: &[f32])
     requires plane_len { length plane.old ≡ plane_bytes }
     requires depth_f32_len { length depth_f32.old ≡ pixels }
     requires in_bounds { 48 ≤ length x.now }

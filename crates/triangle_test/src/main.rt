@@ -8,8 +8,9 @@ ghost use Rattle.std.specs.Prelude.{◌≡◌, ◌<◌, length};
 ghost use Rattle.screen.specs.Plane.{plane_bytes};
 ghost use Rattle.screen.specs.Draw.{pixels};
 
-use libc::{STDIN_FILENO, STDOUT_FILENO};
 use screen::plane::Rgba;
+use std::io;
+use std::io::Stdout;
 
 const PIXELS: usize = 76800;
 
@@ -116,48 +117,50 @@ fn clear(plane: &mut [u8], depth: &mut [i32], depth_f32: &mut [f32]) {
     screen::depths::refill_floats(depth_f32);
 }
 
-fn show(h: u64) {
-    io::write_all(STDOUT_FILENO, b" ");
-    io::print_hex(STDOUT_FILENO, h, 16);
+fn show(out: Stdout, h: u64) -> io::Result<()> {
+    console::write_all(out, b" ")?;
+    console::print_hex(out, h, 16)
 }
 
-fn name(kind: u32) {
+fn name(out: Stdout, kind: u32) -> io::Result<()> {
     match kind {
-        0 => io::write_all(STDOUT_FILENO, b"flat"),
-        1 => io::write_all(STDOUT_FILENO, b"transformed-flat"),
-        2 => io::write_all(STDOUT_FILENO, b"transformed"),
-        3 => io::write_all(STDOUT_FILENO, b"textured-0"),
-        4 => io::write_all(STDOUT_FILENO, b"textured-1"),
-        _ => io::write_all(STDOUT_FILENO, b"textured-2"),
-    };
+        0 => console::write_all(out, b"flat"),
+        1 => console::write_all(out, b"transformed-flat"),
+        2 => console::write_all(out, b"transformed"),
+        3 => console::write_all(out, b"textured-0"),
+        4 => console::write_all(out, b"textured-1"),
+        _ => console::write_all(out, b"textured-2"),
+    }
 }
 
-fn line(kind: u32, plane: &[u8], depth: &[i32], depth_f32: &[f32]) {
-    name(kind);
-    show(digest::bytes(digest::START, plane));
-    show(digest::ints(digest::START, depth));
-    show(digest::floats(digest::START, depth_f32));
-    io::write_all(STDOUT_FILENO, b"\n");
+fn line(out: Stdout, kind: u32, plane: &[u8], depth: &[i32], depth_f32: &[f32]) -> io::Result<()> {
+    name(out, kind)?;
+    show(out, digest::bytes(digest::START, plane))?;
+    show(out, digest::ints(digest::START, depth))?;
+    show(out, digest::floats(digest::START, depth_f32))?;
+    console::write_all(out, b"\n")
 }
 
 // After a triangle: how many are left of its line. The last of a line has it printed.
 fn left_after(
+    out: Stdout,
     kind: u32,
     left: usize,
     plane: &mut [u8],
     depth: &mut [i32],
     depth_f32: &mut [f32],
-) -> usize {
+) -> io::Result<usize> {
     if left > 1 {
-        return left - 1;
+        return Ok(left - 1);
     }
-    line(kind, plane, depth, depth_f32);
+    line(out, kind, plane, depth, depth_f32)?;
     clear(plane, depth, depth_f32);
-    LINE
+    Ok(LINE)
 }
 
 // All the whole records of a section.
 fn lines(
+    out: Stdout,
     kind: u32,
     size: usize,
     plane: &mut [u8],
@@ -165,53 +168,58 @@ fn lines(
     depth_f32: &mut [f32],
     texels: &[u32; 32],
     section: &[u8],
-)
+) -> io::Result<()>
     requires { 0 < size }
 {
     let mut left = LINE;
     let mut rest = section;
     while size <= rest.len() {
         draw(kind, plane, depth, depth_f32, texels, rest);
-        left = left_after(kind, left, plane, depth, depth_f32);
+        left = left_after(out, kind, left, plane, depth, depth_f32)?;
         rest = &rest[size..];
     }
+    Ok(())
 }
 
 // Flat triangles, then the others in each of five ways.
 fn sections(
+    out: Stdout,
     plane: &mut [u8],
     depth: &mut [i32],
     depth_f32: &mut [f32],
     texels: &[u32; 32],
     flats: &[u8],
     shapes: &[u8],
-) {
+) -> io::Result<()> {
     clear(plane, depth, depth_f32);
-    lines(0, 44, plane, depth, depth_f32, texels, flats);
+    lines(out, 0, 44, plane, depth, depth_f32, texels, flats)?;
     let mut kind: u32 = 1;
     while kind < 6 {
-        lines(kind, 208, plane, depth, depth_f32, texels, shapes);
+        lines(out, kind, 208, plane, depth, depth_f32, texels, shapes)?;
         kind += 1;
     }
+    Ok(())
 }
 
-fn main() {
+fn main(rt: HostRuntime) -> io::Result<()> {
     let mut texture = [0u8; 128];
     let mut flats = [0u8; 88000];
     let mut shapes = [0u8; 416000];
     let mut plane = [0u8; 307200];
     let mut depth = [0i32; 76800];
     let mut floats = [0f32; 76800];
-    io::read_full(STDIN_FILENO, &mut texture);
-    io::read_full(STDIN_FILENO, &mut flats);
-    io::read_full(STDIN_FILENO, &mut shapes);
+    let mut input = rt.stdin();
+    console::read_full(&mut input, &mut texture)?;
+    console::read_full(&mut input, &mut flats)?;
+    console::read_full(&mut input, &mut shapes)?;
     let texels = words_of(&texture);
     sections(
+        rt.stdout(),
         &mut plane,
         &mut depth,
         &mut floats,
         &texels,
         &flats,
         &shapes,
-    );
+    )
 }

@@ -5,7 +5,7 @@
 
 ghost use Rattle.std.specs.Prelude.{◌<◌, ◌≤◌, length};
 
-use libc::{STDIN_FILENO, STDOUT_FILENO};
+use std::io;
 
 // The longest record has 138 floats.
 fn floats_of(record: &[u8]) -> [f32; 138] {
@@ -139,25 +139,26 @@ fn records(function: u32, size: usize, section: &[u8]) -> u64
     h
 }
 
-fn line(name: &[u8], function: u32, cells: usize)
+fn line(rt: &HostRuntime, name: &[u8], function: u32, cells: usize) -> io::Result<()>
     requires { (0 < cells) × (cells ≤ 138) }
 {
+    let out = rt.stdout();
     let mut section = [0u8; 49152];
-    let got = io::read_full(STDIN_FILENO, &mut section);
+    let got = console::read_full(&mut rt.stdin(), &mut section)?;
     let h = records(function, cells * 4, &section[..got]);
-    io::write_all(STDOUT_FILENO, name);
-    io::write_all(STDOUT_FILENO, b" ");
-    io::print_hex(STDOUT_FILENO, h, 16);
-    io::write_all(STDOUT_FILENO, b"\n");
+    console::write_all(out, name)?;
+    console::write_all(out, b" ")?;
+    console::print_hex(out, h, 16)?;
+    console::write_all(out, b"\n")
 }
 
-fn main() {
-    line(b"transform", 0, 20);
-    line(b"multiply", 1, 32);
-    line(b"inverse", 2, 16);
-    line(b"apply", 3, 12);
-    line(b"normalize", 4, 3);
-    line(b"shade", 5, 138);
-    line(b"distance", 6, 5);
-    line(b"clip_all", 7, 48);
+fn main(rt: HostRuntime) -> io::Result<()> {
+    line(&rt, b"transform", 0, 20)?;
+    line(&rt, b"multiply", 1, 32)?;
+    line(&rt, b"inverse", 2, 16)?;
+    line(&rt, b"apply", 3, 12)?;
+    line(&rt, b"normalize", 4, 3)?;
+    line(&rt, b"shade", 5, 138)?;
+    line(&rt, b"distance", 6, 5)?;
+    line(&rt, b"clip_all", 7, 48)
 }
