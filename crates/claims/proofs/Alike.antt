@@ -69,7 +69,7 @@ module _ {X Y : Type 0} {K : Keep X} {P : Keep Y} {Rel : X → Y → Type 0} (A 
         notes = noted_same s o (verdict_same c.box d.box h t t.load);
         opcode = refl;
         wanted = refl;
-        box = A.Clear-kept _ _ (kept_same c.box d.box h t.load q);
+        box = A.clear_kept _ _ (kept_same c.box d.box h t.load q);
         bound = omega (arith, none_left);
         idle = λ z. none_left;
       }
