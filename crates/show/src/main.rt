@@ -85,9 +85,7 @@ fn serve(
     let mut turns = u64::MAX;
     while turns > 0 {
         let s = left.state;
-        left = turn(
-            from, s, plane, depth, depth_f32, command, textures, models,
-        )?;
+        left = turn(from, s, plane, depth, depth_f32, command, textures, models)?;
         turns = next(turns, left.more);
     }
     Ok(left)
