@@ -1,6 +1,8 @@
 // What a line writes, with each part in braces replaced by what it asks. A pixel that is asked for
 // is read by the public call; those that are counted are read below it, by `screen`'s function.
 use state::State;
+use std::io;
+use std::io::Stdout;
 use tell::{Seen, say};
 use trial::line;
 use trial::line::Op;
@@ -20,13 +22,22 @@ pub fn told(given: State, fed: Fed) -> Seen {
     tell::seen_after(number_of(answer), given, fed.state)
 }
 
-fn value(op: Op, seen: Seen, changed: u32, plane: &[u8], depth: &[i32], depth_f32: &[f32]) {
+fn value(
+    out: Stdout,
+    op: Op,
+    seen: Seen,
+    changed: u32,
+    plane: &[u8],
+    depth: &[i32],
+    depth_f32: &[f32],
+) -> io::Result<()> {
     let read = vpu::pixel(plane, op.a as usize, op.b as usize);
-    tell::value(op, seen, changed, read, plane, depth, depth_f32);
+    tell::value(out, op, seen, changed, read, plane, depth, depth_f32)
 }
 
 // Only what the call was lent is looked at.
 pub fn write(
+    out: Stdout,
     text: &[u8],
     seen: Seen,
     changed: u32,
@@ -34,7 +45,7 @@ pub fn write(
     plane: &[u8],
     depth: &[i32],
     depth_f32: &[f32],
-) {
+) -> io::Result<()> {
     let a = least(lengths[0], plane.len());
     let b = least(lengths[1], depth.len());
     let c = least(lengths[2], depth_f32.len());
@@ -42,20 +53,22 @@ pub fn write(
     while at < text.len() {
         let open = line::find(text, at, text.len(), b'{');
         let close = line::find(text, open, text.len(), b'}');
-        say::text(&text[at..open]);
+        say::text(out, &text[at..open])?;
         if open < close {
             value(
+                out,
                 line::op_in(&text[open..close]),
                 seen,
                 changed,
                 &plane[..a],
                 &depth[..b],
                 &depth_f32[..c],
-            );
+            )?;
         }
         at = close + 1;
     }
     if 0 < text.len() {
-        say::text(b"\n");
+        say::text(out, b"\n")?;
     }
+    Ok(())
 }

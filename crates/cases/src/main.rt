@@ -6,6 +6,8 @@
 mod ask;
 mod lend;
 
+use std::io;
+use std::io::Stdout;
 use trial::line::{Line, MOST};
 use trial::{job, line, mark};
 
@@ -23,6 +25,7 @@ const MODELS: usize = 524291;
 
 // A line: marks, its call, and what it writes.
 fn play(
+    out: Stdout,
     text: &[u8],
     l: Line,
     words: &[u32; MOST],
@@ -32,7 +35,7 @@ fn play(
     command: &mut [u32],
     textures: &mut [u32],
     models: &mut [u32],
-) {
+) -> io::Result<()> {
     let p = job::of(l);
     mark::memories(p.marked, plane, depth, depth_f32, command, textures, models);
     let seen = lend::lent(
@@ -42,10 +45,13 @@ fn play(
         seen.same, plane, depth, depth_f32, command, textures, models,
     );
     let lengths = p.lengths;
-    ask::write(text, seen, changed, lengths, plane, depth, depth_f32);
+    ask::write(
+        out, text, seen, changed, lengths, plane, depth, depth_f32,
+    )
 }
 
 fn run(
+    out: Stdout,
     text: &[u8],
     plane: &mut [u8],
     depth: &mut [i32],
@@ -53,7 +59,7 @@ fn run(
     command: &mut [u32],
     textures: &mut [u32],
     models: &mut [u32],
-) {
+) -> io::Result<()> {
     let mut words = [0u32; MOST];
     let mut count = 0;
     let mut at = line::skip(text, 0);
@@ -61,6 +67,7 @@ fn run(
         let l = line::read(text, at, count, &mut words);
         let end = l.end;
         play(
+            out,
             &text[at..end],
             l,
             &words,
@@ -70,13 +77,14 @@ fn run(
             command,
             textures,
             models,
-        );
+        )?;
         count = l.count;
         at = l.next;
     }
+    Ok(())
 }
 
-fn main() {
+fn main(rt: HostRuntime) -> io::Result<()> {
     let mut text = [0u8; 16384];
     let mut plane = [0u8; PLANE];
     let mut depth = [0i32; DEPTH];
@@ -84,8 +92,9 @@ fn main() {
     let mut command = [0u32; COMMAND];
     let mut textures = [0u32; TEXTURES];
     let mut models = [0u32; MODELS];
-    let n = io::read_full(0, &mut text);
+    let n = console::read_full(&mut rt.stdin(), &mut text)?;
     run(
+        rt.stdout(),
         &text[..n],
         &mut plane,
         &mut depth,
@@ -93,5 +102,5 @@ fn main() {
         &mut command,
         &mut textures,
         &mut models,
-    );
+    )
 }

@@ -1,7 +1,8 @@
 // A stream's words on the machine, from a reset.
 ghost use Rattle.std.specs.Prelude.{◌<◌, ◌≤◌, length};
 
-use libc::STDOUT_FILENO;
+use std::io;
+use std::io::Stdout;
 use vpu::{Answer, Fed};
 
 // How the words are cut into calls.
@@ -23,42 +24,62 @@ fn number_of(answer: Answer) -> u64 {
     }
 }
 
-fn print_digest(h: u64) {
-    io::write_all(STDOUT_FILENO, b" ");
-    io::print_hex(STDOUT_FILENO, h, 16);
+fn print_digest(out: Stdout, h: u64) -> io::Result<()> {
+    console::write_all(out, b" ")?;
+    console::print_hex(out, h, 16)
 }
 
-fn report(fed: Fed, plane: &[u8], depth: &[i32], depth_f32: &[f32]) {
+fn report(
+    out: Stdout,
+    fed: Fed,
+    plane: &[u8],
+    depth: &[i32],
+    depth_f32: &[f32],
+) -> io::Result<()> {
     let answer = fed.answer;
     let s = fed.state;
     let notes = s.notes;
-    io::print_decimal(STDOUT_FILENO, number_of(answer));
-    io::write_all(STDOUT_FILENO, b" ");
-    io::print_hex(STDOUT_FILENO, notes.status as u64, 8);
-    print_digest(digest::bytes(digest::START, plane));
-    print_digest(digest::ints(digest::START, depth));
-    print_digest(digest::floats(digest::START, depth_f32));
-    io::write_all(STDOUT_FILENO, b"\n");
+    console::print_decimal(out, number_of(answer))?;
+    console::write_all(out, b" ")?;
+    console::print_hex(out, notes.status as u64, 8)?;
+    print_digest(out, digest::bytes(digest::START, plane))?;
+    print_digest(out, digest::ints(digest::START, depth))?;
+    print_digest(out, digest::floats(digest::START, depth_f32))?;
+    console::write_all(out, b"\n")
 }
 
-fn after_call(cut: Cut, fed: Fed, plane: &[u8], depth: &[i32], depth_f32: &[f32]) {
+fn after_call(
+    out: Stdout,
+    cut: Cut,
+    fed: Fed,
+    plane: &[u8],
+    depth: &[i32],
+    depth_f32: &[f32],
+) -> io::Result<()> {
     match cut {
-        Cut::Counted => report(fed, plane, depth, depth_f32),
-        Cut::Whole => {}
-        Cut::Words => {}
+        Cut::Counted => report(out, fed, plane, depth, depth_f32),
+        Cut::Whole => Ok(()),
+        Cut::Words => Ok(()),
     }
 }
 
-fn at_end(cut: Cut, fed: Fed, plane: &[u8], depth: &[i32], depth_f32: &[f32]) {
+fn at_end(
+    out: Stdout,
+    cut: Cut,
+    fed: Fed,
+    plane: &[u8],
+    depth: &[i32],
+    depth_f32: &[f32],
+) -> io::Result<()> {
     match cut {
-        Cut::Counted => {}
+        Cut::Counted => Ok(()),
         Cut::Whole => {
-            io::write_all(STDOUT_FILENO, b"whole ");
-            report(fed, plane, depth, depth_f32);
+            console::write_all(out, b"whole ")?;
+            report(out, fed, plane, depth, depth_f32)
         }
         Cut::Words => {
-            io::write_all(STDOUT_FILENO, b"words ");
-            report(fed, plane, depth, depth_f32);
+            console::write_all(out, b"words ")?;
+            report(out, fed, plane, depth, depth_f32)
         }
     }
 }
@@ -96,6 +117,7 @@ fn words_at(cut: Cut, tape: &[u32], at: usize) -> Span
 }
 
 pub fn run(
+    out: Stdout,
     cut: Cut,
     tape: &[u32],
     plane: &mut [u8],
@@ -104,7 +126,7 @@ pub fn run(
     command: &mut [u32],
     textures: &mut [u32],
     models: &mut [u32],
-) {
+) -> io::Result<()> {
     let mut fed = vpu::reset(plane, depth, depth_f32, command, textures, models);
     let mut at: usize = 0;
     while at < tape.len() {
@@ -122,8 +144,8 @@ pub fn run(
             textures,
             models,
         );
-        after_call(cut, fed, plane, depth, depth_f32);
+        after_call(out, cut, fed, plane, depth, depth_f32)?;
         at = end;
     }
-    at_end(cut, fed, plane, depth, depth_f32);
+    at_end(out, cut, fed, plane, depth, depth_f32)
 }

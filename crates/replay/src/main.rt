@@ -8,9 +8,12 @@
 mod machine;
 mod tape;
 
-ghost use Rattle.std.specs.Prelude.{◌<◌, ◌≤◌, length};
+ghost use Rattle.std.specs.Prelude.{◌<◌, ◌≤◌, length, IfOk};
 
 use machine::{Cut, run};
+use std::io::Stdout;
+use std::{env, fs, io};
+use tape::Source;
 
 // The longest stream that is taken.
 const TAPE: usize = 110000;
@@ -29,14 +32,20 @@ fn following(cut: Cut) -> Cut {
 
 // How many words of the tape a run takes. The first run of a stream reads it; the counts on the
 // tape are dropped after that.
-fn taken(fd: i32, cut: Cut, tape: &mut [u32], n: usize) -> usize
+fn taken(
+    source: &mut Source,
+    out: Stdout,
+    cut: Cut,
+    tape: &mut [u32],
+    n: usize,
+) -> io::Result<usize>
     requires { n ≤ length tape.old }
-    ensures { result ≤ length tape.new }
+    ensures { IfOk result (λ m. m ≤ length tape.new) }
 {
     match cut {
-        Cut::Counted => tape::next(fd, tape),
-        Cut::Whole => tape::joined(tape, n),
-        Cut::Words => n,
+        Cut::Counted => tape::next(source, out, tape),
+        Cut::Whole => Ok(tape::joined(tape, n)),
+        Cut::Words => Ok(n),
     }
 }
 
@@ -60,7 +69,8 @@ fn left(runs: u64, cut: Cut, n: usize) -> u64
 
 // Stream after stream, a run a turn. A first run of no words prints nothing.
 fn streams(
-    fd: i32,
+    source: &mut Source,
+    out: Stdout,
     tape: &mut [u32],
     plane: &mut [u8],
     depth: &mut [i32],
@@ -68,14 +78,15 @@ fn streams(
     command: &mut [u32],
     textures: &mut [u32],
     models: &mut [u32],
-) {
+) -> io::Result<()> {
     let mut runs = u64::MAX;
     let mut cut = Cut::Words;
     let mut n: usize = 0;
     while runs > 0 {
         cut = following(cut);
-        n = taken(fd, cut, tape, n);
+        n = taken(source, out, cut, tape, n)?;
         run(
+            out,
             cut,
             &tape[..n],
             plane,
@@ -84,12 +95,13 @@ fn streams(
             command,
             textures,
             models,
-        );
+        )?;
         runs = left(runs, cut, n);
     }
+    Ok(())
 }
 
-fn play(fd: i32) {
+fn play(source: &mut Source, out: Stdout) -> io::Result<()> {
     let mut tape = [0u32; TAPE];
     let mut plane = [0u8; 307200];
     let mut depth = [0i32; 76800];
@@ -98,7 +110,8 @@ fn play(fd: i32) {
     let mut textures = [0u32; STORE];
     let mut models = [0u32; STORE];
     streams(
-        fd,
+        source,
+        out,
         &mut tape,
         &mut plane,
         &mut depth,
@@ -106,25 +119,20 @@ fn play(fd: i32) {
         &mut command,
         &mut textures,
         &mut models,
-    );
+    )
 }
 
-fn main() {
-    if os::arg_count() < 2 {
-        play(0);
-        return;
+fn main(rt: HostRuntime) -> io::Result<()> {
+    let mut args = env::args(&rt)?;
+    let Some(path) = args.nth(1) else {
+        let mut input = Source::Input(rt.stdin());
+        return play(&mut input, rt.stdout());
+    };
+    match fs::open(&rt, path.as_str()) {
+        Ok(file) => {
+            let mut named = Source::Named(file);
+            play(&mut named, rt.stdout())
+        }
+        Err(error) => eprintln!(rt; "{path}: {error}"),
     }
-    let mut path = io::buffer();
-    let length = os::arg(1, &mut path);
-    if os::errno() != 0 {
-        os::fail(b"path");
-        return;
-    }
-    let fd = os::open_read(&path[..length]);
-    if fd < 0 {
-        os::fail(&path[..length]);
-        return;
-    }
-    play(fd);
-    libc::close(fd);
 }

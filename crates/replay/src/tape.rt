@@ -1,8 +1,26 @@
 // Streams as the file has them, read into a tape of words.
-ghost use Rattle.std.specs.Prelude.{◌≤◌, length};
-ghost use Rattle.io.specs.Counts.{IsPrefixLen};
+ghost use Rattle.std.specs.Prelude.{◌≤◌, length, IfOk};
+ghost use Rattle.console.specs.Counts.{IsPrefixLen};
 
-use libc::STDOUT_FILENO;
+use std::fs::File;
+use std::io;
+use std::io::{Read, Stdin, Stdout};
+
+// Where the streams are read: standard input, or a file.
+#[derive(Drop)]
+pub enum Source {
+    Input(Stdin),
+    Named(File),
+}
+
+impl Read for Source {
+    fn read(&mut self, buf: &mut [u8]) -> io::Result<usize> {
+        match self {
+            Source::Input(input) => input.read(buf),
+            Source::Named(file) => file.read(buf),
+        }
+    }
+}
 
 // A word of the file, and whether the file had one.
 #[derive(Clone, Copy)]
@@ -11,29 +29,29 @@ struct Word {
     word: u32,
 }
 
-fn read_word(fd: i32) -> Word {
+fn read_word(source: &mut Source) -> io::Result<Word> {
     let mut bytes = [0u8; 4];
-    let got = io::read_full(fd, &mut bytes);
-    Word {
+    let got = console::read_full(source, &mut bytes)?;
+    Ok(Word {
         there: got == 4,
         word: words::word(bytes[0], bytes[1], bytes[2], bytes[3]),
-    }
+    })
 }
 
 // Reads n words; says whether the file had them.
-fn fill(fd: i32, out: &mut [u32], n: usize) -> bool
+fn fill(source: &mut Source, out: &mut [u32], n: usize) -> io::Result<bool>
     requires { n ≤ length out.old }
 {
     let mut at: usize = 0;
     while at < n {
-        let next = read_word(fd);
+        let next = read_word(source)?;
         if !next.there {
-            return false;
+            return Ok(false);
         }
         out[at] = next.word;
         at += 1;
     }
-    true
+    Ok(true)
 }
 
 // The bytes of a name up to its first zero.
@@ -50,37 +68,37 @@ fn name_length(name: &[u8; 24]) -> usize
     24
 }
 
-fn print_name(fd: i32) -> bool {
+fn print_name(source: &mut Source, out: Stdout) -> io::Result<bool> {
     let mut name = [0u8; 24];
-    let got = io::read_full(fd, &mut name);
+    let got = console::read_full(source, &mut name)?;
     if got != 24 {
-        return false;
+        return Ok(false);
     }
     let n = name_length(&name);
-    io::write_all(STDOUT_FILENO, &name[..n]);
-    io::write_all(STDOUT_FILENO, b"\n");
-    true
+    console::write_all(out, &name[..n])?;
+    console::write_all(out, b"\n")?;
+    Ok(true)
 }
 
 // Reads the next stream's words, counts and all, and prints its name. Answers how many they are, or
 // 0 if the file has ended or the stream is too long for the tape.
-pub fn next(fd: i32, tape: &mut [u32]) -> usize
-    ensures { IsPrefixLen result tape.new }
+pub fn next(source: &mut Source, out: Stdout, tape: &mut [u32]) -> io::Result<usize>
+    ensures { IfOk result (λ n. IsPrefixLen n tape.new) }
 {
-    if !print_name(fd) {
-        return 0;
+    if !print_name(source, out)? {
+        return Ok(0);
     }
-    let head = read_word(fd);
+    let head = read_word(source)?;
     let n = words::size(head.word);
     if n > tape.len() {
-        io::write_all(STDOUT_FILENO, b"too long\n");
-        return 0;
+        console::write_all(out, b"too long\n")?;
+        return Ok(0);
     }
-    if !fill(fd, tape, n) {
-        io::write_all(STDOUT_FILENO, b"cut short\n");
-        return 0;
+    if !fill(source, tape, n)? {
+        console::write_all(out, b"cut short\n")?;
+        return Ok(0);
     }
-    n
+    Ok(n)
 }
 
 // Moves the first n words, without the counts among them, to the front. Answers how many they are.

@@ -9,6 +9,8 @@ mod refusal;
 ghost use Rattle.std.specs.Prelude.{◌<◌};
 
 use state::State;
+use std::io;
+use std::io::Stdin;
 
 // Each store has room for the greatest upload of its kind, once.
 const STORE: usize = 524288;
@@ -24,6 +26,7 @@ struct Left {
 }
 
 fn turn(
+    from: Stdin,
     state: State,
     plane: &mut [u8],
     depth: &mut [i32],
@@ -31,10 +34,11 @@ fn turn(
     command: &mut [u32],
     textures: &mut [u32],
     models: &mut [u32],
-) -> Left {
+) -> io::Result<Left> {
+    let mut input = from;
     let mut bytes = [0u8; CHUNK];
     let mut words = [0u32; 16384];
-    let got = io::read_full(0, &mut bytes);
+    let got = console::read_full(&mut input, &mut bytes)?;
     let n = words::words_of(&bytes[..got], &mut words);
     let fed = vpu::feed(
         state,
@@ -47,11 +51,11 @@ fn turn(
         models,
     );
     let s = fed.state;
-    Left {
+    Ok(Left {
         state: s,
         more: got == CHUNK,
         cut: got % 4 != 0,
-    }
+    })
 }
 
 // A proved loop has to end, and nothing says that an input does. So the turns are counted down, to
@@ -64,6 +68,7 @@ fn next(turns: u64, more: bool) -> u64
 }
 
 fn serve(
+    from: Stdin,
     state: State,
     plane: &mut [u8],
     depth: &mut [i32],
@@ -71,7 +76,7 @@ fn serve(
     command: &mut [u32],
     textures: &mut [u32],
     models: &mut [u32],
-) -> Left {
+) -> io::Result<Left> {
     let mut left = Left {
         state,
         more: true,
@@ -80,13 +85,13 @@ fn serve(
     let mut turns = u64::MAX;
     while turns > 0 {
         let s = left.state;
-        left = turn(s, plane, depth, depth_f32, command, textures, models);
+        left = turn(from, s, plane, depth, depth_f32, command, textures, models)?;
         turns = next(turns, left.more);
     }
-    left
+    Ok(left)
 }
 
-fn main() {
+fn main(rt: HostRuntime) -> io::Result<()> {
     let mut plane = [0u8; 307200];
     let mut depth = [0i32; 76800];
     let mut depth_f32 = [0f32; 76800];
@@ -103,6 +108,7 @@ fn main() {
     );
     let fresh = begun.state;
     let left = serve(
+        rt.stdin(),
         fresh,
         &mut plane,
         &mut depth,
@@ -110,9 +116,9 @@ fn main() {
         &mut command,
         &mut textures,
         &mut models,
-    );
-    picture::write(&plane);
+    )?;
+    picture::write(rt.stdout(), &plane)?;
     let s = left.state;
     let notes = s.notes;
-    refusal::report(notes.status, s.wanted, left.cut);
+    refusal::report(rt.stderr(), notes.status, s.wanted, left.cut)
 }

@@ -2,12 +2,14 @@
 use crate::say;
 use face::Corners;
 use raster::ink::{Ink, Sampler, Shade, Tone};
+use std::io;
+use std::io::Stdout;
 
 // Case 9: a channel of 128 under a shade.
-pub fn shaded(shade: u32) {
+pub fn shaded(out: Stdout, shade: u32) -> io::Result<()> {
     let t = flat::tri::tri_of(&[0, 0, 10, 4, 0, 10, 0, 4, 10, 0x80_8080, shade]);
     let c = t.color;
-    say::byte(c.r);
+    say::byte(out, c.r)
 }
 
 fn corners(a: f32) -> Corners {
@@ -19,7 +21,7 @@ fn corners(a: f32) -> Corners {
 }
 
 // Case 11: the one texel of a 1 by 1 texture.
-pub fn texel(word: u32) {
+pub fn texel(out: Stdout, word: u32) -> io::Result<()> {
     let zero = corners(0.0);
     let s = Sampler {
         width: 1,
@@ -30,12 +32,15 @@ pub fn texel(word: u32) {
     let ink = Ink::Textured(s, Tone::Plain);
     let shade = raster::ink::shade_at(&[word], ink, corners(0.25), corners(1.0));
     match shade {
-        Shade::Of(c) => say::colour(c),
-        Shade::Blank => say::text(b"none"),
+        Shade::Of(c) => say::colour(out, c),
+        Shade::Blank => say::text(out, b"none"),
     }
 }
 
 // Case 13.
-pub fn root(bits: u32) {
-    say::bits(ieee::bits::bits_of(ieee::root::sqrt(ieee::bits::float_of(bits))));
+pub fn root(out: Stdout, bits: u32) -> io::Result<()> {
+    say::bits(
+        out,
+        ieee::bits::bits_of(ieee::root::sqrt(ieee::bits::float_of(bits))),
+    )
 }

@@ -7,6 +7,8 @@ pub mod say;
 
 use screen::plane::{Read, Rgba};
 use state::State;
+use std::io;
+use std::io::Stdout;
 use store::Slot;
 use trial::line::Op;
 use trial::{mark, same};
@@ -39,16 +41,15 @@ pub fn seen_after(answer: u64, given: State, s: State) -> Seen {
     }
 }
 
-fn framing(opcode: u32, wanted: u32) {
+fn framing(out: Stdout, opcode: u32, wanted: u32) -> io::Result<()> {
     if opcode == 0 {
         if wanted == 0 {
-            say::text(b"next is a header");
-            return;
+            return say::text(out, b"next is a header");
         }
     }
-    say::text(b"wants ");
-    say::word(wanted);
-    say::text(b" words");
+    say::text(out, b"wants ")?;
+    say::word(out, wanted)?;
+    say::text(out, b" words")
 }
 
 const ONE: u32 = 0x3f80_0000;
@@ -56,7 +57,7 @@ const ONE: u32 = 0x3f80_0000;
 const FAR: i32 = 2147483647;
 
 // How much was cleared. What is cleared becomes white.
-fn cleared(plane: &[u8], depth: &[i32], depth_f32: &[f32]) {
+fn cleared(out: Stdout, plane: &[u8], depth: &[i32], depth_f32: &[f32]) -> io::Result<()> {
     let none = mark::all(
         mark::BYTE,
         mark::INT,
@@ -66,7 +67,7 @@ fn cleared(plane: &[u8], depth: &[i32], depth_f32: &[f32]) {
         depth_f32,
     );
     let all = mark::all(255, FAR, ONE, plane, depth, depth_f32);
-    say::amount(none, all);
+    say::amount(out, none, all)
 }
 
 fn colour_of(read: Read) -> Rgba {
@@ -94,44 +95,45 @@ fn drawn(read: Read) -> u64 {
     if c.a == 255 { 1 } else { 0 }
 }
 
-fn among(drawn: u64) {
+fn among(out: Stdout, drawn: u64) -> io::Result<()> {
     if drawn == 1 {
-        say::text(b"among them");
-        return;
+        return say::text(out, b"among them");
     }
-    say::text(b"not");
+    say::text(out, b"not")
 }
 
-fn depth_at(depth: &[i32], x: u32, y: u32) {
+fn depth_at(out: Stdout, depth: &[i32], x: u32, y: u32) -> io::Result<()> {
     let i = (y as usize) * 320 + (x as usize);
     if i < depth.len() {
-        say::signed(depth[i]);
+        return say::signed(out, depth[i]);
     }
+    Ok(())
 }
 
-fn slot(slots: [Slot; 3], i: usize) {
+fn slot(out: Stdout, slots: [Slot; 3], i: usize) -> io::Result<()> {
     if i < 3 {
         let s = slots[i];
         if s.held {
-            say::word(s.number);
-            say::text(b" at ");
-            say::word(s.start);
+            say::word(out, s.number)?;
+            say::text(out, b" at ")?;
+            return say::word(out, s.start);
         }
     }
+    Ok(())
 }
 
-fn answer(answer: u64, changed: u32) {
-    say::number(answer);
-    say::text(b", ");
-    say::amount(changed == 0, changed == 7);
-    say::text(b" changed");
+fn answer(out: Stdout, answer: u64, changed: u32) -> io::Result<()> {
+    say::number(out, answer)?;
+    say::text(out, b", ")?;
+    say::amount(out, changed == 0, changed == 7)?;
+    say::text(out, b" changed")
 }
 
-fn pixel(letter: u8, read: Read) {
+fn pixel(out: Stdout, letter: u8, read: Read) -> io::Result<()> {
     match letter {
-        b'P' => say::colour(colour_of(read)),
-        b'A' => among(drawn(read)),
-        _ => say::number(wrong(read)),
+        b'P' => say::colour(out, colour_of(read)),
+        b'A' => among(out, drawn(read)),
+        _ => say::number(out, wrong(read)),
     }
 }
 
@@ -148,6 +150,7 @@ fn count(plane: &[u8]) -> u64 {
 
 // What the operation asks. `read` is the pixel at its first two numbers.
 pub fn value(
+    out: Stdout,
     op: Op,
     s: Seen,
     changed: u32,
@@ -155,22 +158,22 @@ pub fn value(
     plane: &[u8],
     depth: &[i32],
     depth_f32: &[f32],
-) {
+) -> io::Result<()> {
     let letter = op.letter;
     match letter {
-        b'S' => say::word(s.status),
-        b'F' => framing(s.opcode, s.wanted),
-        b'C' => cleared(plane, depth, depth_f32),
-        b'N' => say::number(count(plane)),
-        b'A' | b'P' | b'Q' => pixel(letter, read),
-        b'Z' => depth_at(depth, op.a, op.b),
+        b'S' => say::word(out, s.status),
+        b'F' => framing(out, s.opcode, s.wanted),
+        b'C' => cleared(out, plane, depth, depth_f32),
+        b'N' => say::number(out, count(plane)),
+        b'A' | b'P' | b'Q' => pixel(out, letter, read),
+        b'Z' => depth_at(out, depth, op.a, op.b),
         b'H' => {
             let slots = s.slots;
-            slot(slots, op.a as usize);
+            slot(out, slots, op.a as usize)
         }
-        b'X' => inner::shaded(op.a),
-        b'T' => inner::texel(op.a),
-        b'R' => inner::root(op.a),
-        _ => answer(s.answer, changed),
+        b'X' => inner::shaded(out, op.a),
+        b'T' => inner::texel(out, op.a),
+        b'R' => inner::root(out, op.a),
+        _ => answer(out, s.answer, changed),
     }
 }

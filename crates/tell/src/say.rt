@@ -1,55 +1,53 @@
 // Lines of the output, piece by piece.
-use libc::STDOUT_FILENO;
 use screen::plane::Rgba;
+use std::io;
+use std::io::Stdout;
 
-pub fn text(s: &[u8]) {
-    io::write_all(STDOUT_FILENO, s);
+pub fn text(out: Stdout, s: &[u8]) -> io::Result<()> {
+    console::write_all(out, s)
 }
 
-pub fn number(n: u64) {
-    io::print_decimal(STDOUT_FILENO, n);
+pub fn number(out: Stdout, n: u64) -> io::Result<()> {
+    console::print_decimal(out, n)
 }
 
-pub fn word(x: u32) {
-    number(x as u64);
+pub fn word(out: Stdout, x: u32) -> io::Result<()> {
+    number(out, x as u64)
 }
 
-pub fn bits(x: u32) {
-    io::print_hex(STDOUT_FILENO, x as u64, 8);
+pub fn bits(out: Stdout, x: u32) -> io::Result<()> {
+    console::print_hex(out, x as u64, 8)
 }
 
-pub fn signed(x: i32) {
+pub fn signed(out: Stdout, x: i32) -> io::Result<()> {
     let w = digest::int_bits(x);
     if w < 2147483648 {
-        word(w);
-        return;
+        return word(out, w);
     }
-    text(b"-");
-    word(4294967295 - w + 1);
+    text(out, b"-")?;
+    word(out, 4294967295 - w + 1)
 }
 
-pub fn byte(b: u8) {
-    number(b as u64);
+pub fn byte(out: Stdout, b: u8) -> io::Result<()> {
+    number(out, b as u64)
 }
 
-pub fn colour(c: Rgba) {
-    byte(c.r);
-    text(b",");
-    byte(c.g);
-    text(b",");
-    byte(c.b);
-    text(b",");
-    byte(c.a);
+pub fn colour(out: Stdout, c: Rgba) -> io::Result<()> {
+    byte(out, c.r)?;
+    text(out, b",")?;
+    byte(out, c.g)?;
+    text(out, b",")?;
+    byte(out, c.b)?;
+    text(out, b",")?;
+    byte(out, c.a)
 }
 
-pub fn amount(none: bool, all: bool) {
+pub fn amount(out: Stdout, none: bool, all: bool) -> io::Result<()> {
     if none {
-        text(b"nothing");
-        return;
+        return text(out, b"nothing");
     }
     if all {
-        text(b"all");
-        return;
+        return text(out, b"all");
     }
-    text(b"some");
+    text(out, b"some")
 }
