@@ -45,9 +45,7 @@ fn play(
         seen.same, plane, depth, depth_f32, command, textures, models,
     );
     let lengths = p.lengths;
-    ask::write(
-        out, text, seen, changed, lengths, plane, depth, depth_f32,
-    )
+    ask::write(out, text, seen, changed, lengths, plane, depth, depth_f32)
 }
 
 fn run(

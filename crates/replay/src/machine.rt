@@ -29,13 +29,7 @@ fn print_digest(out: Stdout, h: u64) -> io::Result<()> {
     console::print_hex(out, h, 16)
 }
 
-fn report(
-    out: Stdout,
-    fed: Fed,
-    plane: &[u8],
-    depth: &[i32],
-    depth_f32: &[f32],
-) -> io::Result<()> {
+fn report(out: Stdout, fed: Fed, plane: &[u8], depth: &[i32], depth_f32: &[f32]) -> io::Result<()> {
     let answer = fed.answer;
     let s = fed.state;
     let notes = s.notes;

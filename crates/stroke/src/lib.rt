@@ -93,7 +93,8 @@ pub fn paint(
     requires stored { Stored brush (length texels.now) }
     ensures { sheet plane.new depth_f32.new ≡ stroke_on (stroke tri brush texels.now) (sheet plane.old depth_f32.old) }
 {
-    if clip::polygon::all_inside(tri) {
+    let inside = clip::polygon::all_inside(tri);
+    if inside {
         paint_triangle(plane, depth_f32, tri, brush, texels);
     } else {
         paint_fan(

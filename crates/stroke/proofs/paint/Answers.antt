@@ -12,12 +12,12 @@ use Rattle.stroke.proofs.paint.Goals as goal
 pub paint_fan-requires : goal.paint_fan-requires
 paint_fan-requires c = record { plane_len = c.requires.plane_len; depth_f32_len = c.requires.depth_f32_len; stored = c.requires.stored; count_le_room = c.clip_all.ensures.few }
 
-pub returns-then-all_inside : goal.returns-then-all_inside
+pub returns-then-inside : goal.returns-then-inside
 unfolding stroke_on fan_on
-returns-then-all_inside c = let long : length c.args.tri ≡ 3 = search rules in
-    let inside : all_inside full c.args.tri ≡ true = sym c.all_inside.ensures ∙ c.if-all_inside.true in
+returns-then-inside c = let long : length c.args.tri ≡ 3 = search rules in
+    let inside : all_inside full c.args.tri ≡ true = sym c.all_inside-inside.ensures ∙ c.if-inside.true in
     rw (inside-drawn full c.args.tri long inside) c.paint_triangle.ensures
 
-pub returns-else-all_inside : goal.returns-else-all_inside
+pub returns-else-inside : goal.returns-else-inside
 unfolding stroke_on
-returns-else-all_inside c = rw (← c.clip_all.ensures.are) c.paint_fan.ensures
+returns-else-inside c = rw (← c.clip_all.ensures.are) c.paint_fan.ensures
