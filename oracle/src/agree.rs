@@ -13,7 +13,7 @@ use vpu_oracle::words::word_line;
 /// What the port writes at most: 28 vertices of 16.
 const ROOM: usize = 448;
 
-// The exports of `crates/vertex_c/src/lib.rt`: a slice is a pointer and a length, an array a pointer.
+// The exports of `crates/vertex_c_c/src/lib.rt`: a slice is a pointer and a length, an array a pointer.
 extern "C" {
     fn vertex_transform(x: *const f32, length: usize, out: *mut f32);
     fn vertex_multiply(x: *const f32, length: usize, out: *mut f32);

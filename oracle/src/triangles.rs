@@ -18,7 +18,7 @@ const BATCH: u64 = 24;
 const ROW: usize = 320;
 const PIXELS: usize = 76_800;
 
-// The exports of `crates/triangle_c/src/lib.rt`: a slice is a pointer and a length.
+// The exports of `crates/triangle_c_c/src/lib.rt`: a slice is a pointer and a length.
 extern "C" {
     fn triangle_flat(
         plane: *mut u8,

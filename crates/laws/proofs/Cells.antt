@@ -1,10 +1,10 @@
 -- The laws of `map_at`. Assumes nothing.
---     length-mapAt, getD-mapAt     the length, and the element at k
---     map-ext, map-none            two functions that agree on the list; one that changes nothing there
---     map-twice                    one pass after the other
---     range_none, range_all        an empty range, and a whole one
---     range-join                   a range after the one below it
---     range-set                    a store at the end of a range: a turn of a loop
+--     length-map_at, get_or-map_at    the length, and the element at k
+--     map_ext, map-none               two functions that agree on the list; one that changes nothing there
+--     map_twice                       one pass after the other
+--     range_none, range_all           an empty range, and a whole one
+--     range_join                      a range after the one below it
+--     range_set                       a store at the end of a range: a turn of a loop
 use mathlib.Core.Path.{◌≡◌, refl, sym, ap, ◌∙◌}
 use mathlib.Core.Bool.{Bool, true, false, and-false}
 use mathlib.Core.List.{List, [], ◌∷◌}

@@ -1,5 +1,5 @@
 -- What number a bit pattern of binary32 stands for (IEEE 754-2019, 3.4): its size in units of 2 ^ -149, the sign's bit, the infinities and the NaNs; and the sign's bit of a value's pattern.
--- That a pattern reads back what was written is `value_back` and `Word-back` of crate ieee's proofs/Patterns.antt. Assumes nothing.
+-- That a pattern reads back what was written is `value_back` and `word_back` of crate ieee's proofs/Patterns.antt. Assumes nothing.
 use mathlib.Core.Path.{◌≡◌, refl, sym, ap, subst, ◌∙◌}
 use mathlib.Core.Bool.{Bool, true, false, cond, not}
 use Prim.Native.Nat.{ℕ, zero, suc, ◌+◌, ◌-◌, ◌*◌, ◌/◌, ◌%◌, ◌^◌, ◌≤◌, ◌<◌}

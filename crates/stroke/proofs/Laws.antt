@@ -1,7 +1,7 @@
 -- Laws of strokes, for a caller that paints several. Assumes nothing.
---     strokes-append                  those of two lists, one after the other
+--     strokes_append                  those of two lists, one after the other
 --     triangle-long, fan-long         a triangle and a fan keep the lengths of the plane and of the depths
---     stroke-long, strokes-long       and so do a stroke and strokes
+--     stroke-long, strokes_long       and so do a stroke and strokes
 use Prim.Native.Nat.{ℕ}
 use mathlib.Core.Path.{◌≡◌, refl, ◌∙◌}
 use mathlib.Core.List.{List, [], ◌∷◌, ◌++◌}

@@ -1,4 +1,4 @@
--- One call of `edge`, within bounds (`Reach`). Assumes nothing.
+-- One call of `edge`, within bounds (`Near`). Assumes nothing.
 use mathlib.Core.Path.{◌∙◌}
 use mir.Syntax.{w64}
 use mir.ValLaws.{to_z-of_z}
