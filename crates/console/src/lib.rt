@@ -3,16 +3,17 @@
 // `main` ends with.
 #![tactic(auto)]
 
-ghost use Rattle.std.specs.Prelude.{IfOk};
+ghost use Rattle.std.specs.Prelude.{◌≡◌, length, IfOk, OnErr};
 ghost use Rattle.console.specs.Counts.{IsPrefixLen};
 
 use std::io;
 use std::io::{Read, Write};
 
 // Reads until buf is full or the input ends, and returns how many bytes it put at the start of buf.
-// On an empty buf it makes no call.
+// On an empty buf it makes no call. If a read fails, buf may hold what was read before.
 pub fn read_full<R: Read>(from: &mut R, buf: &mut [u8]) -> io::Result<usize>
-    ensures { IfOk result (λ n. IsPrefixLen n buf.new) }
+    ensures ok { IfOk result (λ n. IsPrefixLen n buf.new) }
+    ensures err { OnErr result (length buf.new ≡ length buf.old) }
 {
     let mut done = 0;
     while done < buf.len() {

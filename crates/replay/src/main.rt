@@ -8,7 +8,7 @@
 mod machine;
 mod tape;
 
-ghost use Rattle.std.specs.Prelude.{◌<◌, ◌≤◌, length, IfOk};
+ghost use Rattle.std.specs.Prelude.{◌≡◌, ◌<◌, ◌≤◌, length, IfOk, OnErr};
 
 use machine::{Cut, run};
 use std::io::Stdout;
@@ -40,7 +40,8 @@ fn taken(
     n: usize,
 ) -> io::Result<usize>
     requires { n ≤ length tape.old }
-    ensures { IfOk result (λ m. m ≤ length tape.new) }
+    ensures ok { IfOk result (λ m. m ≤ length tape.new) }
+    ensures err { OnErr result (length tape.new ≡ length tape.old) }
 {
     match cut {
         Cut::Counted => tape::next(source, out, tape),

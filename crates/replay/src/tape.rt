@@ -1,5 +1,5 @@
 // Streams as the file has them, read into a tape of words.
-ghost use Rattle.std.specs.Prelude.{◌≤◌, length, IfOk};
+ghost use Rattle.std.specs.Prelude.{◌≡◌, ◌≤◌, length, IfOk, OnErr};
 ghost use Rattle.console.specs.Counts.{IsPrefixLen};
 
 use std::fs::File;
@@ -83,7 +83,8 @@ fn print_name(source: &mut Source, out: Stdout) -> io::Result<bool> {
 // Reads the next stream's words, counts and all, and prints its name. Answers how many they are, or
 // 0 if the file has ended or the stream is too long for the tape.
 pub fn next(source: &mut Source, out: Stdout, tape: &mut [u32]) -> io::Result<usize>
-    ensures { IfOk result (λ n. IsPrefixLen n tape.new) }
+    ensures ok { IfOk result (λ n. IsPrefixLen n tape.new) }
+    ensures err { OnErr result (length tape.new ≡ length tape.old) }
 {
     if !print_name(source, out)? {
         return Ok(0);

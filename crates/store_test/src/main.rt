@@ -5,7 +5,7 @@
 // writes both the input and what has to be printed.
 #![tactic(auto)]
 
-ghost use Rattle.std.specs.Prelude.{◌≡◌, ◌<◌, ◌≤◌, length, IfOk};
+ghost use Rattle.std.specs.Prelude.{◌≡◌, ◌<◌, ◌≤◌, length, IfOk, OnErr};
 
 use std::io;
 use std::io::Stdout;
@@ -164,7 +164,8 @@ fn record(
     requires at_in_bounds { at < length words.now }
     requires size_in_bounds { size ≤ length store.old }
     requires store_len_bound { length store.old ≤ 4096 }
-    ensures { IfOk result (λ next. (at < next.at) × (next.size ≤ length store.new)) }
+    ensures ok { IfOk result (λ next. (at < next.at) × (next.size ≤ length store.new)) }
+    ensures err { OnErr result (length store.new ≡ length store.old) }
 {
     let end = Next {
         slots,
