@@ -8,7 +8,7 @@ SignIs nan s = ⊥
 SignIs (inf t) s = t ≡ s
 SignIs (fin t m e) s = t ≡ s
 
--- a = b, beside `lt_z` and `le_z` of lib.Signed
+-- a = b, beside `lt_z` and `le_z` of Rattle.std.specs.Int.Signed
 abbrev pub eq_z : ℤ → ℤ → Bool
 eq_z (pos a) (pos b) = eqb a b
 eq_z (pos a) (negsuc b) = false

@@ -1,4 +1,4 @@
--- Why a word or a command was refused, what that does to the status, and which refusal a host is told of. Assumes nothing.
+-- Why a word or a command was refused, and what that does to the status. The first refusal is for a later call: none gives it yet. Assumes nothing.
 use Rattle.std.specs.Prelude.{ℕ, Bool, cond, ◌&&◌, eqb, leb}
 use Rattle.std.specs.Int.Bits.{bit_or}
 use Rattle.verdict.specs.declared.Reason.{Reason}
@@ -29,7 +29,7 @@ abbrev pub bits_of : Verdict → ℕ
 bits_of Done = 0
 bits_of (Refused r i) = bit_for (number_of r)
 
--- a refusal as a host is told of it; and none
+-- a refusal as a host is to be told of it; and none
 abbrev pub refusal : ℕ → ℕ → ℕ → Refusal
 refusal reason opcode index = record { reason = reason; opcode = opcode; index = index }
 

@@ -30,8 +30,8 @@ pub enum Verdict {
     Refused { reason: Reason, index: u32 },
 }
 
-// A refusal, as a host is told of it: the number of its reason, the opcode of the header, and the
-// index. All three are 0 if nothing was refused.
+// A refusal, as a host is to be told of it (no call does so yet): the number of its reason, the
+// opcode of the header, and the index. All three are 0 if nothing was refused.
 #[derive(Clone, Copy)]
 pub struct Refusal {
     pub reason: u32,
