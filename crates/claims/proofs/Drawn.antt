@@ -1,5 +1,5 @@
 -- A draw shows the last accepted upload, on the screen: two 1 × 1 textures under one number and a triangle over the lower left half. antt computes its corners, its set-up and one pixel. Assumes nothing.
-use Prim.Native.Nat.{ℕ, ◌+◌, ◌/◌, ◌≤◌}
+use Prim.Native.Nat.{ℕ, ◌/◌, ◌≤◌}
 use mathlib.Core.Path.{◌≡◌, refl, ◌∙◌}
 use mathlib.Core.Bool.{true, false}
 use mathlib.Core.Option.{some}

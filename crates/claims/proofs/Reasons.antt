@@ -1,166 +1,26 @@
--- Which reasons a command's checks give: what holds of "done" and of each of the first eight reasons holds of every verdict but a full store's. Assumes nothing.
-use Prim.Native.Nat.{ℕ, zero, suc, ◌+◌}
-use mathlib.Core.Path.{refl}
-use mathlib.Core.Bool.{Bool, true, false}
-use mathlib.Core.Option.{Option, none, some}
-use mathlib.Core.List.{List, [], ◌∷◌}
-use lib.Dec.{eqb, leb, ltb}
+-- Which reasons a command's checks give: what holds of "done" and of each of the first eight reasons, whatever the index, holds of every verdict but a full store's. Assumes nothing.
+use Prim.Native.Nat.{ℕ}
+use mathlib.Core.Bool.{Bool}
+use mathlib.Core.List.{List}
 use lib.Ieee.{Float}
-use lib.Ieee.Scale.{finite}
-use lib.ListN.{length, drop, get_or}
-use Rattle.vector.specs.declared.normal.Inverse.{Inverse}
-use Rattle.vector.specs.declared.normal.Inverse.TheVariants.{Of, Singular}
-use Rattle.clip.specs.declared.vertex.ClipVertex.{ClipVertex}
 use Rattle.verdict.specs.declared.Reason.TheVariants.{OutOfRange, NotFinite, NotHeld, NotInvertible}
 use Rattle.verdict.specs.declared.Verdict.{Verdict}
 use Rattle.verdict.specs.declared.Verdict.TheVariants.{Done, Refused}
-use Rattle.payload.specs.Words.{and_then, word_at, float_at, at_most, finite_from}
 use Rattle.settings.specs.declared.Settings.{Settings}
-use Rattle.settings.specs.declared.Changed.{Changed}
-use Rattle.settings.specs.Settings.{changed, mode_verdict, matrix_verdict, light_verdict}
-use Rattle.store.specs.Uploads.{Whole}
-use Rattle.flat.specs.Words.{signed_at, in_reach, first_out, flat_verdict}
-use Rattle.sprite.specs.Words.{fit_verdict, sprite_verdict}
-use Rattle.decide.specs.Corners.{color_at, first_of, corner, normal_matrix_of, corners_of}
-use Rattle.decide.specs.Verdicts.{invertible_of, held_of, finite4, reached_of, each_of, inputs_of, plain_vertex, plain_of, transformed_by, transformed_verdict, textured_by, checked_verdict, textured_verdict, triangle_of, records_verdict}
-use Rattle.judge.specs.Judge.{model_verdict}
-use Rattle.store.specs.declared.Kind.TheVariants.{Texture, Model}
-use Rattle.command.specs.declared.Setting.{Setting}
-use Rattle.command.specs.declared.Setting.TheVariants as setting
-use Rattle.command.specs.declared.Draw.{Draw}
-use Rattle.command.specs.declared.Draw.TheVariants as draw
-use Rattle.command.specs.declared.Command.{Command}
-use Rattle.command.specs.declared.Command.TheVariants.{Sets, Loads, Paints, Unknown}
-use Rattle.command.specs.Command.{command_of, setting_words, draw_words}
-use Rattle.execute.specs.Commands.{Look, Painted, refused, unknown, wrong_length, set_by, settings_after, texture_verdict, count_verdict, clear_painted, sprite_painted, flat_painted, transformed_painted, textured_painted, model_painted, drawn_by, painted_by, told_as, told}
-use Rattle.execute.proofs.Told.{told_as_lem}
-use Rattle.laws.proofs.Bools.{either}
+use Rattle.sprite.specs.Words.{fit_verdict}
+use Rattle.decide.specs.Verdicts.{checked_verdict}
+use Rattle.execute.specs.Commands.{Look, unknown, wrong_length, told}
+use Rattle.execute.proofs.Reasons as bounded
 
 module _ (Q : Verdict → Type 0) (done : Q Done) (range : (i : ℕ) → Q (Refused OutOfRange i)) (float : (i : ℕ) → Q (Refused NotFinite i)) (matrix : Q (Refused NotInvertible 0)) where
-  then_so : (v w : Verdict) → Q v → Q w → Q (and_then v w)
-  then_so Done w a b = b
-  then_so (Refused r i) w a b = a
-
-  most_so : (p : List ℕ) (i most : ℕ) → Q (at_most p i most)
-  most_so p i most = either Q (leb (word_at p i) most) _ _ done (range i)
-
-  from_so : (p : List ℕ) (i n : ℕ) → Q (finite_from p i n)
-  unfolding finite_from
-  from_so p i zero = done
-  from_so p i (suc n) = either Q (finite (float_at p i)) _ _ (from_so p (i + 1) n) (float i)
-
-  each_so : (check : ℕ → Verdict) → ((i : ℕ) → Q (check i)) → Q (each_of check)
-  each_so check a = then_so (check 0) _ (a 0) (then_so (check 1) _ (a 1) (a 2))
-
-  invertible_so : (x : Inverse) → Q (invertible_of x)
-  invertible_so (Of m) = done
-  invertible_so Singular = matrix
-
-  reached_so : (v : ClipVertex) (o : ℕ) → Q (reached_of v o)
-  reached_so v o = either Q (finite4 v.position) _ _ done (float o)
-
-  inputs_so : (p : List ℕ) (normal textured : Bool) → Q (inputs_of p normal textured)
-  unfolding inputs_of
-  inputs_so p normal textured = each_so _ (λ i. from_so p (first_of normal textured i) (color_at normal textured))
-
-  plain_so : (p : List ℕ) (tri : List ClipVertex) → Q (plain_of p tri)
-  unfolding plain_of plain_vertex
-  plain_so p tri = each_so _ (λ i. then_so (reached_of (corner tri i) (first_of false true i)) _ (reached_so (corner tri i) (first_of false true i)) (from_so p (first_of false true i + 3) 2))
-
   -- a textured draw, after its mode and its number
   pub checked_so : (p : List ℕ) (normal : Bool) (m : List Float) → Q (checked_verdict p normal m)
-  unfolding checked_verdict textured_by
-  checked_so p normal m =
-      then_so (invertible_of (normal_matrix_of m normal)) _ (invertible_so (normal_matrix_of m normal))
-      (either Q normal (inputs_of p true true) (plain_of p (corners_of p normal true m)) (inputs_so p true true) (plain_so p (corners_of p normal true m)))
-
-  transformed_so : (p : List ℕ) (normal : Bool) (m : List Float) → Q (transformed_verdict p normal m)
-  unfolding transformed_verdict transformed_by
-  transformed_so p normal m =
-      then_so (invertible_of (normal_matrix_of m normal)) _ (invertible_so (normal_matrix_of m normal))
-      (then_so (inputs_of p normal false) _ (inputs_so p normal false)
-      (each_so _ (λ i. reached_so (corner (corners_of p normal false m) i) (first_of normal false i))))
-
-  out_so : (p ks : List ℕ) → Q (first_out p ks)
-  out_so p [] = done
-  out_so p (k ∷ ks) = either Q (in_reach (signed_at p k)) _ _ (out_so p ks) (range k)
-
-  flat_so : (p : List ℕ) → Q (flat_verdict p)
-  unfolding flat_verdict
-  flat_so p = out_so p (0 ∷ 1 ∷ 3 ∷ 4 ∷ 6 ∷ 7 ∷ [])
+  checked_so = bounded.checked_so Q done (λ i h. range i) (λ i h. float i) matrix
 
   pub fit_so : (p : List ℕ) (w h : ℕ) → Q (fit_verdict p w h)
-  unfolding fit_verdict
-  fit_so p w h =
-      either Q (eqb (get_or p 3 0) 0) _ _ (range 3)
-      (either Q (eqb (get_or p 4 0) 0) _ _ (range 4)
-      (either Q (leb (get_or p 1 0 + get_or p 3 0) w) _ _ (either Q (leb (get_or p 2 0 + get_or p 4 0) h) _ _ (out_so p (5 ∷ 6 ∷ [])) (range 4)) (range 3)))
+  fit_so = bounded.fit_so Q done (λ i h. range i) (λ i h. float i) matrix
 
   module _ (long : Q wrong_length) (no_such : Q unknown) (held : Q (Refused NotHeld 0)) where
-    -- ---- those that set
-    by_so : (s : Settings) (x : Setting) (p : List ℕ) → Q (set_by s x p).verdict
-    unfolding mode_verdict matrix_verdict light_verdict
-    by_so s setting.Mode p = then_so (at_most p 0 1) _ (most_so p 0 1) (most_so p 1 1)
-    by_so s setting.Matrix p = then_so (at_most p 0 2) _ (most_so p 0 2) (from_so p 1 16)
-    by_so s setting.Light p = then_so (at_most p 0 7) _ (most_so p 0 7) (then_so (at_most p 1 1) _ (most_so p 1 1) (from_so p 2 15))
-
-    set_so : (s : Settings) (x : Setting) (p : List ℕ) → Q (settings_after s x p).verdict
-    unfolding settings_after
-    set_so s x p = either (λ (c : Changed). Q c.verdict) (eqb (length p) (setting_words x)) (set_by s x p) (changed wrong_length s s) (by_so s x p) long
-
-    -- ---- 17 and 1A, before room is asked
-    texture_so : (p : List ℕ) → Q (texture_verdict p)
-    unfolding texture_verdict
-    texture_so p =
-        either Q (ltb (length p) 3) _ _ long
-        (either Q (eqb (word_at p 1) 0) _ _ (range 1)
-        (either Q (eqb (word_at p 2) 0) _ _ (range 2) (either Q (ltb 1024 (word_at p 1)) _ _ (range 1) (either Q (ltb 1024 (word_at p 2)) _ _ (range 2) (either Q (eqb (length p) _) _ _ done long)))))
-
-    count_so : (p : List ℕ) → Q (count_verdict p)
-    unfolding count_verdict
-    count_so p = either Q (ltb (length p) 2) _ _ long (either Q (eqb (word_at p 1) 0) _ _ (range 1) (either Q (eqb (length p) _) _ _ done long))
-
-    -- ---- the draws
-    sprite_so : (p : List ℕ) (o : Option Whole) → Q (sprite_verdict p o)
-    unfolding sprite_verdict
-    sprite_so p none = held
-    sprite_so p (some u) = fit_so p u.wide u.high
-
-    textured_so : (p : List ℕ) (normal b : Bool) (m : List Float) → Q (textured_verdict p normal b m)
-    unfolding textured_verdict
-    textured_so p normal b m = then_so (at_most p 1 2) _ (most_so p 1 2) (then_so (held_of b) _ (either Q b _ _ done held) (checked_so p normal m))
-
-    records_so : (mode : ℕ) (has : ℕ → Bool) (m : List Float) (n : ℕ) (ws : List ℕ) → Q (records_verdict mode has m n ws)
-    unfolding records_verdict
-    records_so mode has m zero ws = done
-    records_so mode has m (suc n) ws =
-        then_so (textured_verdict (triangle_of mode ws) true (has (word_at ws 0)) m) _ (textured_so (triangle_of mode ws) true (has (word_at ws 0)) m) (records_so mode has m n (drop 28 ws))
-
-    model_so : (p : List ℕ) (has : ℕ → Bool) (m : List Float) (o : Option Whole) → Q (model_verdict p has m o)
-    unfolding model_verdict
-    model_so p has m none = then_so (at_most p 1 2) _ (most_so p 1 2) held
-    model_so p has m (some u) = then_so (at_most p 1 2) _ (most_so p 1 2) (records_so (word_at p 1) has m u.wide u.words)
-
-    drawn_so : (look : Look) (s : Settings) (d : Draw) (p : List ℕ) → Q (drawn_by look s d p).verdict
-    unfolding clear_painted sprite_painted flat_painted transformed_painted textured_painted model_painted
-    drawn_so look s draw.Clear p = most_so p 0 3
-    drawn_so look s draw.Sprite p = sprite_so p _
-    drawn_so look s draw.Flat p = flat_so p
-    drawn_so look s (draw.Transformed normal) p = transformed_so p normal s.matrices
-    drawn_so look s (draw.Textured normal) p = textured_so p normal _ s.matrices
-    drawn_so look s draw.Model p = model_so p _ s.matrices _
-
-    painted_so : (look : Look) (s : Settings) (d : Draw) (p : List ℕ) → Q (painted_by look s d p).verdict
-    unfolding painted_by
-    painted_so look s d p = either (λ (a : Painted). Q a.verdict) (eqb (length p) (draw_words d)) (drawn_by look s d p) (refused wrong_length) (drawn_so look s d p) long
-
-    -- ---- every command, before room is asked
-    as_so : (look : Look) (s : Settings) (c : Command) (p : List ℕ) → Q (told_as look s c p).verdict
-    as_so look s (Sets x) p = set_so s x p
-    as_so look s (Loads Texture) p = texture_so p
-    as_so look s (Loads Model) p = count_so p
-    as_so look s (Paints d) p = painted_so look s d p
-    as_so look s Unknown p = no_such
-
+    -- every command, before room is asked
     pub told_so : (look : Look) (s : Settings) (op : ℕ) (p : List ℕ) → Q (told look s op p).verdict
-    told_so look s op p = rw (told_as_lem look s op p refl) (as_so look s (command_of op) p)
+    told_so = bounded.told_so Q done (λ i h. range i) (λ i h. float i) matrix long no_such held

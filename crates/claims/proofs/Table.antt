@@ -1,5 +1,5 @@
 -- The table of thirteen: `thirteen`. After a reset words leave what they leave on the plain machine, which antt computes; a clear is computed over any memory; the rest is cited. Assumes nothing.
-use Prim.Native.Nat.{ℕ, zero, ◌≤◌}
+use Prim.Native.Nat.{ℕ, ◌≤◌}
 use mathlib.Core.Path.{◌≡◌, refl, ap, ◌∙◌}
 use mathlib.Core.List.{List, [], ◌∷◌, ◌++◌}
 use native.Mathlib.Omega.{arith}

@@ -129,20 +129,22 @@ pub fn feed(
     ensures { outcome (number_of result.answer) (machine result.state plane.new depth.new depth_f32.new command.new textures.new models.new)
         ≡ feed state words.now plane.old depth.old depth_f32.old command.old textures.old models.old }
 {
-    if !lengths_ok(
+    let right = lengths_ok(
         plane.len(),
         depth.len(),
         depth_f32.len(),
         command.len(),
         textures.len(),
         models.len(),
-    ) {
+    );
+    if !right {
         return Fed {
             answer: Answer::WrongLength,
             state,
         };
     }
-    if !state::well_formed(state, textures.len(), models.len()) {
+    let formed = state::well_formed(state, textures.len(), models.len());
+    if !formed {
         return Fed {
             answer: Answer::Malformed,
             state,

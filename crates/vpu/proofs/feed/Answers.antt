@@ -4,15 +4,15 @@ use Rattle.vpu.specs.Calls.{outcome}
 use Rattle.vpu.proofs.Laws.{sound, feed_wrong, feed_malformed, feed-done}
 use Rattle.vpu.proofs.feed.Goals as goal
 
-pub returns-then-not-lengths_ok : goal.returns-then-not-lengths_ok
-returns-then-not-lengths_ok c = sym (feed_wrong _ _ _ _ _ _ _ _ (sym c.lengths_ok.ensures ∙ c.if-not-lengths_ok.true))
+pub returns-then-not-right : goal.returns-then-not-right
+returns-then-not-right c = sym (feed_wrong _ _ _ _ _ _ _ _ (sym c.lengths_ok-right.ensures ∙ c.if-not-right.true))
 
-pub returns-then-not-well_formed : goal.returns-then-not-well_formed
-returns-then-not-well_formed c = sym (feed_malformed _ _ _ _ _ _ _ _ (sym c.lengths_ok.ensures ∙ c.if-not-lengths_ok.false) (sym c.well_formed-2.ensures ∙ c.if-not-well_formed.true))
+pub returns-then-not-formed : goal.returns-then-not-formed
+returns-then-not-formed c = sym (feed_malformed _ _ _ _ _ _ _ _ (sym c.lengths_ok-right.ensures ∙ c.if-not-right.false) (sym c.well_formed-formed.ensures ∙ c.if-not-formed.true))
 
 pub run_words-after-requires : goal.run_words-after-requires
-run_words-after-requires c = sound _ _ _ _ _ _ _ (sym c.lengths_ok.ensures ∙ c.if-not-lengths_ok.false) (sym c.well_formed-2.ensures ∙ c.if-not-well_formed.false)
+run_words-after-requires c = sound _ _ _ _ _ _ _ (sym c.lengths_ok-right.ensures ∙ c.if-not-right.false) (sym c.well_formed-formed.ensures ∙ c.if-not-formed.false)
 
 pub returns : goal.returns
 returns c = ap (outcome 0) c.run_words-after.ensures
-    ∙ sym (feed-done _ _ _ _ _ _ _ _ (sym c.lengths_ok.ensures ∙ c.if-not-lengths_ok.false) (sym c.well_formed-2.ensures ∙ c.if-not-well_formed.false))
+    ∙ sym (feed-done _ _ _ _ _ _ _ _ (sym c.lengths_ok-right.ensures ∙ c.if-not-right.false) (sym c.well_formed-formed.ensures ∙ c.if-not-formed.false))
