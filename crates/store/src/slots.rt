@@ -3,10 +3,10 @@ ghost use Rattle.std.specs.Prelude.{◌≡◌, ◌+◌, ◌≤◌, ◌<◌, leng
 ghost use Rattle.store.specs.Uploads.{without, total, most_words, slot_count, room};
 ghost use Rattle.store.specs.Slots.{area_of, told, slot_for, slots_of, slots_after, card_of, stays};
 
-use crate::{Found, Kind, Room, SLOTS, Slot};
+use crate::{Kind, NoRoom, SLOTS, Slot};
 
 // The held slot with this number.
-pub fn find(slots: [Slot; SLOTS], number: u32) -> Found
+pub fn find(slots: [Slot; SLOTS], number: u32) -> Option<Slot>
     ensures { result ≡ slot_for number slots }
 {
     let mut i = 0;
@@ -14,12 +14,12 @@ pub fn find(slots: [Slot; SLOTS], number: u32) -> Found
         let s = slots[i];
         if s.held {
             if s.number == number {
-                return Found::At(s);
+                return Some(s);
             }
         }
         i += 1;
     }
-    Found::Nothing
+    None
 }
 
 // How many words an upload of these sides takes.
@@ -71,19 +71,25 @@ pub fn used_by_others(kind: Kind, slots: [Slot; SLOTS], number: u32) -> Usage
 
 // Is there room for so many words under this number, in a store of `size` words? An old upload under
 // the number would leave both its slot and its words, so only the other numbers count.
-pub fn room_for(kind: Kind, slots: [Slot; SLOTS], size: usize, number: u32, words: usize) -> Room
+pub fn room_for(
+    kind: Kind,
+    slots: [Slot; SLOTS],
+    size: usize,
+    number: u32,
+    words: usize,
+) -> Result<(), NoRoom>
     requires slots_bound { total (told kind slots) ≤ most_words }
     requires words_le_most_words { words ≤ most_words }
     ensures { result ≡ room size (told kind slots) number words }
 {
     let used = used_by_others(kind, slots, number);
     if SLOTS <= used.count {
-        return Room::NoSlot;
+        return Err(NoRoom::NoSlot);
     }
     if size < used.total + words {
-        return Room::NoWords;
+        return Err(NoRoom::NoWords);
     }
-    Room::Fits
+    Ok(())
 }
 
 // The uploads under other numbers, closed up.

@@ -8,7 +8,7 @@ ghost use Rattle.store.specs.Uploads.{without, total, behind, most_words};
 ghost use Rattle.store.specs.Slots.{told, view, over, words_after, slots_ok};
 
 use crate::slots::{area, find, used_by_others};
-use crate::{Found, Kind, SLOTS, Slot};
+use crate::{Kind, SLOTS, Slot};
 
 // One word is moved, and counted: the answer is how many have been moved so far.
 fn move_word(store: &mut [u32], to: usize, from: usize, moved: usize) -> usize
@@ -90,8 +90,7 @@ pub fn put(kind: Kind, slots: [Slot; SLOTS], store: &mut [u32], number: u32, wor
 {
     let used = used_by_others(kind, slots, number);
     let others = used.total;
-    let f = find(slots, number);
-    let Found::At(s) = f else {
+    let Some(s) = find(slots, number) else {
         put_last(store, others, words, others);
         return 0;
     };

@@ -8,7 +8,7 @@ use lib.ListN.{length, take}
 use Rattle.store.specs.Uploads.{total}
 use Rattle.store.specs.Slots.{told, view, slot_for, over, words_after}
 use Rattle.store.specs.declared.Slot.{Slot}
-use Rattle.store.specs.declared.Found.TheVariants.{At, Nothing}
+use Rattle.std.specs.Prelude.{Some, None}
 use Rattle.store.proofs.Walk.{none-holds}
 use Rattle.store.proofs.Moved.{moves_new, total-fits, put-new, put_old, Spot, spot}
 use Rattle.store.proofs.words.put.Goals as goal
@@ -21,8 +21,8 @@ fits : (c : After-area-size) → total (told c.args.kind c.args.slots) ≤ lengt
 fits c = total-fits c.args.kind c.args.slots c.args.store.now c.args.number (long c) c.requires.slots_value
 
 -- nothing is under the number
-none-at : (c : In_default) → let args = c.args in slot_for args.number args.slots ≡ Nothing
-none-at c = sym c.find-f.ensures ∙ c.in_default.is
+none-at : (c : In_default) → let args = c.args in slot_for args.number args.slots ≡ None
+none-at c = sym c.find.ensures ∙ c.in_default.is
 
 new-at : (c : In_default)
     → let args = c.args in
@@ -36,11 +36,11 @@ new-at c =
 
 -- a slot is found
 abbrev slot : After-area-size → Slot
-slot c = c.in-At.s
+slot c = c.in-Some.s
 
 found : (c : After-area-size) → let args = c.args in
-    slot_for args.number args.slots ≡ At (slot c)
-found c = sym c.find-f.ensures ∙ c.in-At.is
+    slot_for args.number args.slots ≡ Some (slot c)
+found c = sym c.find.ensures ∙ c.in-Some.is
 
 spot_at : (c : After-area-size)
     → let args = c.args in
