@@ -9,15 +9,10 @@ use crate::{Kind, NoRoom, SLOTS, Slot};
 pub fn find(slots: [Slot; SLOTS], number: u32) -> Option<Slot>
     ensures { result ≡ slot_for number slots }
 {
-    let mut i = 0;
-    while i < SLOTS {
-        let s = slots[i];
-        if s.held {
-            if s.number == number {
-                return Some(s);
-            }
+    for s in slots {
+        if s.held && s.number == number {
+            return Some(s);
         }
-        i += 1;
     }
     None
 }
@@ -38,14 +33,11 @@ pub fn area(kind: Kind, width: u32, height: u32) -> usize
 fn keeps(s: Slot, number: u32) -> bool
     ensures { result ≡ stays number s }
 {
-    if s.held {
-        return s.number != number;
-    }
-    false
+    s.held && s.number != number
 }
 
 // How many slots the other numbers hold, and how many words they take.
-#[derive(Clone, Copy)]
+#[derive(Clone, Copy, Debug, PartialEq, Eq)]
 pub struct Usage {
     pub count: usize,
     pub total: usize,
@@ -55,18 +47,7 @@ pub fn used_by_others(kind: Kind, slots: [Slot; SLOTS], number: u32) -> Usage
     requires { total (told kind slots) ≤ most_words }
     ensures { (result.count ≡ length (without number (told kind slots))) × (result.total ≡ total (without number (told kind slots))) }
 {
-    let mut i = 0;
-    let mut count = 0;
-    let mut total = 0;
-    while i < SLOTS {
-        let s = slots[i];
-        i += 1;
-        if keeps(s, number) {
-            count += 1;
-            total += area(kind, s.width, s.height);
-        }
-    }
-    Usage { count, total }
+    others(kind, slots, number).usage
 }
 
 // Is there room for so many words under this number, in a store of `size` words? An old upload under
@@ -94,40 +75,32 @@ pub fn room_for(
 
 // The uploads under other numbers, closed up.
 #[derive(Clone, Copy)]
-pub struct Left {
-    pub slots: [Slot; SLOTS],
-    pub count: usize,
-    pub total: usize,
+struct Left {
+    slots: [Slot; SLOTS],
+    usage: Usage,
 }
 
 fn others(kind: Kind, slots: [Slot; SLOTS], number: u32) -> Left
     requires { total (told kind slots) ≤ most_words }
     ensures slots_value { result.slots ≡ slots_of (without number (told kind slots)) }
-    ensures count_value { (result.count ≡ length (without number (told kind slots))) × (result.total ≡ total (without number (told kind slots))) }
+    ensures count_value { (result.usage.count ≡ length (without number (told kind slots))) × (result.usage.total ≡ total (without number (told kind slots))) }
 {
-    let mut out = [Slot::UNUSED; SLOTS];
-    let mut i = 0;
+    let mut left = [Slot::UNUSED; SLOTS];
     let mut count = 0;
     let mut total = 0;
-    while i < SLOTS {
-        let s = slots[i];
-        i += 1;
+    for s in slots {
         if keeps(s, number) {
-            out[count] = Slot {
-                held: true,
-                number: s.number,
-                width: s.width,
-                height: s.height,
+            left[count] = Slot {
                 start: total as u32,
+                ..s
             };
             count += 1;
             total += area(kind, s.width, s.height);
         }
     }
     Left {
-        slots: out,
-        count,
-        total,
+        slots: left,
+        usage: Usage { count, total },
     }
 }
 
@@ -144,14 +117,13 @@ pub fn slots_after(
     ensures { result ≡ slots_after (card_of kind number width height) (told kind slots) }
 {
     let left = others(kind, slots, number);
-    let i = left.count;
     let mut out = left.slots;
-    out[i] = Slot {
+    out[left.usage.count] = Slot {
         held: true,
         number,
         width,
         height,
-        start: left.total as u32,
+        start: left.usage.total as u32,
     };
     out
 }

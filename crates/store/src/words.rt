@@ -31,12 +31,9 @@ fn move_down(store: &mut [u32], to: usize, from: usize, end: usize) -> usize
     ensures store_after { store.new ≡ paste store.old to (drop from store.old) (end - from) }
     ensures value { result ≡ end - from }
 {
-    let n = end - from;
     let mut moved = 0;
-    let mut done = 0;
-    while done < n {
+    for done in 0..end - from {
         moved = move_word(store, to + done, from + done, moved);
-        done += 1;
     }
     moved
 }
@@ -46,11 +43,7 @@ pub fn write_at(store: &mut [u32], at: usize, words: &[u32])
     requires { at + length words.now ≤ length store.old }
     ensures { store.new ≡ paste store.old at words.now (length words.now) }
 {
-    let mut i = 0;
-    while i < words.len() {
-        store[at + i] = words[i];
-        i += 1;
-    }
+    store[at..at + words.len()].copy_from_slice(words);
 }
 
 // The n words from `at` on are zero afterwards; the rest stays.
@@ -58,11 +51,7 @@ fn clear(store: &mut [u32], at: usize, n: usize)
     requires { at + n ≤ length store.old }
     ensures { store.new ≡ paste store.old at (replicate n 0) n }
 {
-    let mut i = 0;
-    while i < n {
-        store[at + i] = 0;
-        i += 1;
-    }
+    store[at..at + n].fill(0);
 }
 
 // The words are there from `at` on afterwards, then zeros up to `old`; the rest stays.

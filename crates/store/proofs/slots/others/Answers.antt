@@ -1,54 +1,36 @@
-use mathlib.Core.Path.{refl, sym, ap, ◌∙◌}
+use mathlib.Core.Path.{◌≡◌, sym, ◌∙◌}
+use mathlib.Core.Bool.{true, not}
+use lib.ListN.{get_or}
+use lib.Dec.{eqb}
 use native.Mathlib.Omega.{arith}
-use borrow.Author.Rules.{rules}
-use lib.ListN.{length}
-use Rattle.store.specs.Uploads.{total}
-use Rattle.store.specs.Slots.{slots_of}
-use Rattle.store.proofs.Walk.{tally_count, tally_sum, packed_length, packed_more, packed_same, kept-all}
+use Rattle.store.specs.Slots.{no_slot, stays}
+use Rattle.laws.proofs.Bools.{and_left}
+use Rattle.store.proofs.Walk.{tally_count, tally_sum, tally_more, packed_more, packed_same}
 use Rattle.store.proofs.slots.others.Goals as goal
+use Rattle.store.proofs.slots.others.Goals.{then-keeps, else-keeps}
 
-pub loop-i-init : goal.loop-i-init
-loop-i-init c = record { tally = record { within = omega arith; long = search rules; count_is = refl; sum_is = refl }; slots = refl }
+pub overflow_cast-left : goal.overflow_cast-left
+overflow_cast-left c = omega (arith, tally_sum c.loop-s.invariant.tally)
 
-pub offset_bounds-slots-i : goal.offset_bounds-slots-i
-offset_bounds-slots-i c = omega arith
+pub offset_bounds-left-count : goal.offset_bounds-left-count
+offset_bounds-left-count c = omega (arith, tally_count c.loop-s.invariant.tally)
 
-pub bounds-slots-i : goal.bounds-slots-i
-bounds-slots-i c = omega arith
-
-pub overflow_add-i : goal.overflow_add-i
-overflow_add-i c = omega arith
-
-pub overflow_cast-out : goal.overflow_cast-out
-overflow_cast-out c = omega (arith, tally_sum c.loop-i.invariant.tally)
-
-pub offset_bounds-out-count : goal.offset_bounds-out-count
-offset_bounds-out-count c = omega (arith, tally_count c.loop-i.invariant.tally)
-
-pub bounds-out-count : goal.bounds-out-count
-bounds-out-count c = omega (arith, tally_count c.loop-i.invariant.tally, packed_length c.loop-i.invariant)
+pub bounds-left-count : goal.bounds-left-count
+bounds-left-count c = omega (arith, tally_count c.loop-s.invariant.tally)
 
 pub overflow_add-count : goal.overflow_add-count
-overflow_add-count c = omega (arith, tally_count c.loop-i.invariant.tally)
+overflow_add-count c = omega (arith, tally_count c.loop-s.invariant.tally)
 
 pub overflow_add-total : goal.overflow_add-total
-overflow_add-total c = let next = packed_more c.loop-i.invariant (omega arith) c.area-total.result (sym c.keeps.ensures ∙ c.if-keeps.true) c.area-total.ensures in
-    omega (arith, tally_sum next.tally)
+overflow_add-total c = let next = tally_more c.loop-s.invariant.tally (omega arith) c.area-total.result (sym c.keeps.ensures ∙ c.if-keeps.true) c.area-total.ensures in
+    omega (arith, tally_sum next)
 
-pub loop-i-smaller-then-keeps : goal.loop-i-smaller-then-keeps
-loop-i-smaller-then-keeps c = omega arith
-
-pub loop-i-preserved-then-keeps : goal.loop-i-preserved-then-keeps
-loop-i-preserved-then-keeps c = packed_more c.loop-i.invariant (omega arith) c.area-total.result (sym c.keeps.ensures ∙ c.if-keeps.true) c.area-total.ensures
-
-pub loop-i-smaller : goal.loop-i-smaller
-loop-i-smaller c = omega arith
-
-pub loop-i-preserved : goal.loop-i-preserved
-loop-i-preserved c = packed_same c.loop-i.invariant (omega arith) (sym c.keeps.ensures ∙ c.if-keeps.false)
-
-pub returns : goal.returns
-returns c = let args = c.args in
-    let p = c.loop-i.invariant in
-    let all = kept-all args.kind args.number c.loop-i.i args.slots (omega arith) in
-    record { slots_value = p.slots ∙ ap slots_of all; count_value = (p.tally.count_is ∙ ap length all, p.tally.sum_is ∙ ap total all) }
+-- a slot that stays is held, so that its copy is
+pub loop-s-preserved : goal.loop-s-preserved
+loop-s-preserved c = let s = get_or c.args.slots c.loop-s.s-index no_slot in
+    elim c.if-keeps.branch [
+      | then-keeps w ↦ let stay : stays c.args.number s ≡ true = sym c.keeps.ensures ∙ w.if-keeps.true in
+          let held : s.held ≡ true = and_left s.held (not (eqb s.number c.args.number)) stay in
+          rw (w.left-is, w.count-is, w.total-is, held) (packed_more c.loop-s.invariant (omega arith) w.area-total.result stay w.area-total.ensures)
+      | else-keeps w ↦ rw (w.left-is, w.count-is, w.total-is) (packed_same c.loop-s.invariant (omega arith) (sym c.keeps.ensures ∙ w.if-keeps.false))
+    ]

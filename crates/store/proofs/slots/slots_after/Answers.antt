@@ -18,5 +18,5 @@ pub returns : goal.returns
 returns c = let args = c.args in
     let left = c.others-left in
     let card = card_of args.kind args.number args.width args.height in
-    ap (λ (l : List Slot). set l left.result.count (slot_of left.result.total card)) left.ensures.slots_value
-    ∙ slots_last (without args.number (told args.kind args.slots)) card left.result.count left.result.total left.ensures.count_value.0 left.ensures.count_value.1 (omega arith)
+    ap (λ (l : List Slot). set l left.result.usage.count (slot_of left.result.usage.total card)) left.ensures.slots_value
+    ∙ slots_last (without args.number (told args.kind args.slots)) card left.result.usage.count left.result.usage.total left.ensures.count_value.0 left.ensures.count_value.1 (omega arith)

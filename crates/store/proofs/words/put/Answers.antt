@@ -60,19 +60,9 @@ pub used_by_others-used-requires : goal.used_by_others-used-requires
 used_by_others-used-requires c = let args = c.args in
     omega (arith, total-fits args.kind args.slots args.store.now args.number (search rules) c.requires.slots_value)
 
-pub put_last-requires : goal.put_last-requires
-put_last-requires c = omega (arith, c.used_by_others-used.ensures.1)
-
 pub returns-in_default : goal.returns-in_default
 returns-in_default c = let args = c.args in
     record { store_after = c.put_last.ensures ∙ new-at (goal.at.returns-in_default c).In_default; value = sym (moves_new args.number (told args.kind args.slots) (none-holds args.kind args.number args.slots (none-at (goal.at.returns-in_default c).In_default))) }
-
-pub overflow_add-end : goal.overflow_add-end
-overflow_add-end c = omega (arith, end_at c)
-
-pub overflow_add-to : goal.overflow_add-to
-overflow_add-to c = let s = spot_at (goal.at.overflow_add-to c).After-area-size in
-    omega (arith, c.area-size.ensures, fits (goal.at.overflow_add-to c).After-area-size)
 
 pub move_down-moved-requires : goal.move_down-moved-requires
 move_down-moved-requires c = let s = spot_at (goal.at.move_down-moved-requires c).After-area-size in
