@@ -7,7 +7,7 @@ ghost use Rattle.light.specs.Light.{disabled, view_of, to_light_of, shine_of, te
 
 use vector::three::{dot, normalize};
 
-#[derive(Clone, Copy)]
+#[derive(Clone, Copy, Debug, PartialEq)]
 pub struct Light {
     pub enabled: bool,
     pub ambient: [f32; 3],

@@ -1,12 +1,14 @@
 -- A test of every element of a list: its turns along the list, its elements, and what the lists made of others inherit. Assumes nothing.
 use Prim.Native.Nat.{ℕ, zero, suc, ◌+◌, ◌≤◌, ◌<◌}
-use mathlib.Core.Path.{◌≡◌, refl, ap, ◌∙◌}
+use mathlib.Core.Path.{◌≡◌, refl, sym, ap, ◌∙◌}
 use mathlib.Core.Bool.{Bool, true, false, ◌&&◌, and-false, and_assoc, and-eq-true_iff}
 use mathlib.Core.List.{List, [], ◌∷◌, ◌++◌}
 use native.Mathlib.Numerals.{add-one}
 use native.Mathlib.Omega.{arith}
 use lib.ListN.{length, take, drop, get_or, set, drop_of_length-le}
 use lib.Seq.{drop-cons}
+use Rattle.std.specs.Bool.{MatchBool}
+use Rattle.std.specs.List.{AllWithin, HoldsAt}
 use Rattle.settings.specs.Settings.{all_of}
 
 module _ {A : Type 0} (f : A → Bool) where
@@ -63,3 +65,11 @@ module _ {A : Type 0} (f : A → Bool) where
   all_set (x ∷ l) (suc i) y h e =
       let both = (and-eq-true_iff (f x) (all_of f l)).0 h in
       (and-eq-true_iff (f x) (all_of f (set l i y))).1 (both.0, all_set l i y both.1 e)
+
+  -- what `iter().all(..)` answers, as `cases_from_all` has it
+  pub all_from : (l : List A) (r : Bool) → MatchBool r (AllWithin (λ x. f x ≡ true) l 0 (length l)) ((k : ℕ) × (k < length l) × HoldsAt (λ x. f x ≡ false) l k) → r ≡ all_of f l
+  unfolding all_of
+  all_from [] true h = refl
+  all_from (x ∷ l) true h = sym (all-is (x ∷ l) x (λ i k. h i x (omega arith) k))
+  all_from [] false h = absurd (omega arith)
+  all_from (x ∷ l) false h = sym (all_not (x ∷ l) h.0 x h.1 (h.2 x))

@@ -6,10 +6,9 @@ use Rattle.ieee.specs.Words.{floats_of}
 use Rattle.vector.specs.Matrices.{identity}
 use Rattle.light.specs.Light.{disabled}
 use Rattle.light.specs.declared.Light.{Light}
-use Rattle.verdict.specs.declared.Verdict.{Verdict}
-use Rattle.payload.specs.Words.{and_then, when_done, word_at, three_at, at_most, finite_from}
+use Rattle.verdict.specs.Verdict.{Verdict, and_then}
+use Rattle.payload.specs.Words.{word_at, three_at, at_most, finite_from}
 use Rattle.settings.specs.declared.Settings.{Settings}
-use Rattle.settings.specs.declared.Changed.{Changed}
 
 -- rule 1.9: three identity matrices, shading mode 0, lighting off, eight dark lights
 abbrev pub fresh : Settings
@@ -20,10 +19,7 @@ fresh = record {
   lights = replicate 8 disabled;
 }
 
--- ---- the three commands: what each refuses, and what it sets. `changed v new old`: the verdict, and the settings afterwards
-abbrev pub changed : Verdict → Settings → Settings → Changed
-changed v new old = record { verdict = v; settings = when_done v new old }
-
+-- ---- the three commands: what each refuses, and what it sets
 -- rule 3.7
 unfoldable pub mode_verdict : List ℕ → Verdict
 mode_verdict p = and_then (at_most p 0 1) (at_most p 1 1)
