@@ -8,7 +8,7 @@ ghost use Rattle.std.specs.List.{list_all};
 ghost use Rattle.plain.specs.Plain.{switch_of, light_in, light_out, slot_in, slot_out, state_in, state_out, light_switch, slot_switch, switches_ok, shown};
 
 use light::Light;
-use screen::plane::Read;
+use screen::plane::{Rgba, WrongLength};
 use settings::Settings;
 use state::State;
 use store::{SLOTS, Slot};
@@ -212,23 +212,25 @@ pub fn switches_ok(s: VpuState) -> bool
 }
 
 // A pixel that was read, or that the plane's length is wrong: 0 or 1, and the four bytes.
-pub fn colour_out(read: Read) -> VpuColour
-    ensures { shown result ≡ answered read }
-{
-    match read {
-        Read::Colour(c) => VpuColour {
-            answer: 0,
-            r: c.r,
-            g: c.g,
-            b: c.b,
-            a: c.a,
-        },
-        Read::WrongLength => VpuColour {
-            answer: 1,
-            r: 0,
-            g: 0,
-            b: 0,
-            a: 0,
-        },
+impl From<Result<Rgba, WrongLength>> for VpuColour {
+    ghost from_gives = { λ read c. shown c ≡ answered read };
+
+    fn from(read: Result<Rgba, WrongLength>) -> VpuColour {
+        match read {
+            Ok(c) => VpuColour {
+                answer: 0,
+                r: c.r,
+                g: c.g,
+                b: c.b,
+                a: c.a,
+            },
+            Err(WrongLength) => VpuColour {
+                answer: 1,
+                r: 0,
+                g: 0,
+                b: 0,
+                a: 0,
+            },
+        }
     }
 }
