@@ -41,7 +41,6 @@ module _ {A B : Type 0} (f : A → B) (g : B → A) where
       rw (h a both.0, map_back_where ok h l both.1)
 
 all_map : {A B : Type 0} (f : A → B) (ok : B → Bool) → ((a : A) → ok (f a) ≡ true) → (l : List A) → list_all ok (map f l) ≡ true
-
 all_map f ok h [] = refl
 all_map f ok h (a ∷ l) = rw (h a, all_map f ok h l)
 

@@ -205,10 +205,7 @@ fn slots_ok(slots: &[VpuSlot]) -> bool
 pub fn switches_ok(s: VpuState) -> bool
     ensures { result ≡ switches_ok s }
 {
-    s.lighting_enabled <= 1
-        && lights_ok(&s.lights)
-        && slots_ok(&s.textures)
-        && slots_ok(&s.models)
+    s.lighting_enabled <= 1 && lights_ok(&s.lights) && slots_ok(&s.textures) && slots_ok(&s.models)
 }
 
 // A pixel that was read, or that the plane's length is wrong: 0 or 1, and the four bytes.
