@@ -25,12 +25,6 @@ known c =
     let p = B.mul x l.in_rise in
     (omega arith, B.fits tt l.in_rise, B.fits tt l.in_base, B.fits tt p, B.fits tt (B.sub p l.in_base))
 
-pub overflow_mul-result : goal.overflow_mul-result
-overflow_mul-result c = let (x, rise, base, p, e) = known (goal.at.overflow_mul-result c).Start in simp (to_z-of_z, to_z_pos) p
-
-pub overflow_sub-result : goal.overflow_sub-result
-overflow_sub-result c = let (x, rise, base, p, e) = known (goal.at.overflow_sub-result c).Start in simp (to_z-of_z, to_z_pos) e
-
 pub returns : goal.returns
 unfolding on_line
 returns c = let (x, rise, base, p, e) = known (goal.at.returns c).Start in simp (to_z-of_z, to_z_pos)
