@@ -1,3 +1,4 @@
 mod Laid
+mod Walks
 mod Split
 mod Marks

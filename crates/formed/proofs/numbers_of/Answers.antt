@@ -1,15 +1,9 @@
-use mathlib.Core.Path.{refl}
-use native.Mathlib.Omega.{arith}
-use borrow.Author.Rules.{rules}
-use Rattle.store.specs.Slots.{no_slot}
-use Rattle.store.proofs.Mapped.{mapped_more, mapped_all}
+-- `formed::numbers_of` meets its contract: the array's `map` is the list's (`Mapped.antt`). Assumes nothing.
+use Rattle.std.proofs.Common.{◌≡◌, length, rules, sym, ◌∙◌}
+use Rattle.formed.specs.Tests.{number_of}
+use Rattle.store.proofs.Mapped.{array_mapped}
 use Rattle.formed.proofs.numbers_of.Goals as goal
 
-pub loop-i-init : goal.loop-i-init
-loop-i-init c = record { within = omega arith; long-from = search rules; long_to = search rules; done = refl }
-
-pub loop-i-preserved : goal.loop-i-preserved
-loop-i-preserved c = mapped_more c.loop-i.invariant no_slot refl (omega arith)
-
 pub returns : goal.returns
-returns c = mapped_all c.loop-i.invariant (omega arith)
+returns c = let long : length c.args.slots ≡ 64 = search rules in
+    array_mapped number_of c.args.slots c.map.result (c.map.ensures.items.long ∙ sym long) (λ i d e l. let h = c.map.ensures.items.at i d e (rw long at l) in search rules)
