@@ -1,26 +1,21 @@
 // Whether settings are well formed: every float finite, the shading mode 0 or 1. What the commands
 // leave always is (proofs/Formed.antt); a state that a caller hands in need not be.
 ghost use Rattle.std.specs.Prelude.{◌≡◌};
-ghost use Rattle.settings.specs.Settings.{finite_list, light_ok, lights_ok, settings_ok};
+ghost use Rattle.settings.specs.Settings.{light_ok, lights_ok, settings_ok};
 
 use crate::Settings;
+use ieee::bits::all_finite;
 use light::Light;
-
-fn finite_floats(x: &[f32]) -> bool
-    ensures { result ≡ finite_list x.now }
-{
-    x.iter().all(|x| ieee::bits::is_finite(*x))
-}
 
 #[tactic(auto, unfolding(crate::specs::Settings::light_ok))]
 fn light_ok(l: Light) -> bool
     ensures { result ≡ light_ok l }
 {
-    finite_floats(&l.ambient)
-        && finite_floats(&l.diffuse)
-        && finite_floats(&l.specular)
-        && finite_floats(&l.emission)
-        && finite_floats(&l.position)
+    all_finite(&l.ambient)
+        && all_finite(&l.diffuse)
+        && all_finite(&l.specular)
+        && all_finite(&l.emission)
+        && all_finite(&l.position)
 }
 
 fn lights_ok(lights: [Light; 8]) -> bool
@@ -33,5 +28,5 @@ fn lights_ok(lights: [Light; 8]) -> bool
 pub fn settings_ok(s: Settings) -> bool
     ensures { result ≡ settings_ok s }
 {
-    finite_floats(&s.matrices) && s.shading_mode <= 1 && lights_ok(s.lights)
+    all_finite(&s.matrices) && s.shading_mode <= 1 && lights_ok(s.lights)
 }
