@@ -2,7 +2,7 @@
 use mathlib.Core.Path.{sym, ◌∙◌}
 use native.Mathlib.Omega.{arith}
 use Rattle.framing.proofs.Words.{header-zero, header-begun}
-use Rattle.framing.proofs.header.Goals as goal
+use Rattle.framing.proofs.Frame.header.Goals as goal
 
 pub returns-then-opcode-eq0 : goal.returns-then-opcode-eq0
 returns-then-opcode-eq0 c = c.dropped.ensures ∙ sym (header-zero _ _ c.if-opcode-eq0.true)
