@@ -65,17 +65,28 @@ fn laid_ok(kind: Kind, slots: [Slot; SLOTS], size: usize) -> bool
     at <= size
 }
 
+// Stays: the array's `map` took three times as long, which each call of the machine pays for.
 fn numbers_of(slots: [Slot; SLOTS]) -> [u32; SLOTS]
     ensures { result ≡ map number_of slots }
 {
-    slots.map(|s| s.number)
+    let mut numbers = [0; SLOTS];
+    for i in 0..SLOTS {
+        numbers[i] = slots[i].number;
+    }
+    numbers
 }
 
 // How often the number is there. All are looked at, so that several can be looked at at once.
-fn times(numbers: &[u32; SLOTS], number: u32) -> usize
+fn times(numbers: &[u32; SLOTS], number: u32) -> u32
     ensures { result ≡ hits number numbers.now }
 {
-    numbers.iter().filter(|x| **x == number).count()
+    let mut n: u32 = 0;
+    for x in numbers {
+        if *x == number {
+            n += 1;
+        }
+    }
+    n
 }
 
 // Are the numbers of the held slots different? This goes from the last slot to the first. A number
