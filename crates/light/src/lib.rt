@@ -54,9 +54,10 @@ fn shine(normal: [f32; 3], to_light: [f32; 3], view: [f32; 3], ndotl: f32) -> f3
             to_light[1] + view[1],
             to_light[2] + view[2],
         ]);
-        return vector::three::powi16(ieee::range::max0(dot(normal, half_vector)));
+        vector::three::powi16(ieee::range::max0(dot(normal, half_vector)))
+    } else {
+        0.0
     }
-    0.0
 }
 
 // What one light adds to one channel: its four terms, summed before they are added.
@@ -81,8 +82,7 @@ fn add_light(
 ) -> [f32; 3]
     ensures { result ≡ added_of albedo position normal view light rgb }
 {
-    let light_position = light.position;
-    let toward = to_light(light_position, position);
+    let toward = to_light(light.position, position);
     let ndotl = ieee::range::max0(dot(normal, toward));
     let specular = shine(normal, toward, view, ndotl);
     [
@@ -111,13 +111,10 @@ pub fn shade_vertex(
 {
     let view = to_eye(position);
     let mut rgb = [0.0, 0.0, 0.0];
-    let mut i: usize = 0;
-    while i < 8 {
-        let light = lights[i];
+    for light in &lights {
         if light.enabled {
-            rgb = add_light(rgb, albedo, position, normal, view, light);
+            rgb = add_light(rgb, albedo, position, normal, view, *light);
         }
-        i += 1;
     }
     [rgb[0], rgb[1], rgb[2], albedo[3]]
 }
@@ -137,14 +134,9 @@ pub fn shade_three(
 ) -> [[f32; 4]; 3]
     ensures { result ≡ shade_each albedos positions normals lights }
 {
-    let views = [
-        to_eye(positions[0]),
-        to_eye(positions[1]),
-        to_eye(positions[2]),
-    ];
-    let mut rgb = [[0.0, 0.0, 0.0]; 3];
-    let mut i: usize = 0;
-    while i < 24 {
+    let views = positions.map(to_eye);
+    let mut rgb = [[0.0; 3]; 3];
+    for i in 0..24 {
         let light = lights[i % 8];
         let v = i / 8;
         if light.enabled {
@@ -157,7 +149,6 @@ pub fn shade_three(
                 light,
             );
         }
-        i += 1;
     }
     [
         with_alpha(rgb[0], albedos[0]),

@@ -6,6 +6,6 @@ pub returns-then-ndotl : goal.returns-then-ndotl
 unfolding shine_of
 returns-then-ndotl c = simp c.if-ndotl.true cc
 
-pub returns : goal.returns
+pub returns-else-ndotl : goal.returns-else-ndotl
 unfolding shine_of
-returns c = simp c.if-ndotl.false
+returns-else-ndotl c = simp c.if-ndotl.false
