@@ -1,11 +1,23 @@
 // Vectors of three.
 ghost use Rattle.std.specs.Prelude.{◌≡◌};
-ghost use Rattle.vector.specs.Three.{dot_of, scaled_of, normal_of, power16};
+ghost use Rattle.vector.specs.Three.{dot_of, plus_of, minus_of, scaled_of, normal_of, power16};
 
 pub fn dot(a: [f32; 3], b: [f32; 3]) -> f32
     ensures { result ≡ dot_of a b }
 {
     a[0] * b[0] + a[1] * b[1] + a[2] * b[2]
+}
+
+pub fn plus(a: [f32; 3], b: [f32; 3]) -> [f32; 3]
+    ensures { result ≡ plus_of a b }
+{
+    [a[0] + b[0], a[1] + b[1], a[2] + b[2]]
+}
+
+pub fn minus(a: [f32; 3], b: [f32; 3]) -> [f32; 3]
+    ensures { result ≡ minus_of a b }
+{
+    [a[0] - b[0], a[1] - b[1], a[2] - b[2]]
 }
 
 // The vector brought to length 1, with its length handed in.
@@ -14,7 +26,8 @@ pub fn scaled(vector: [f32; 3], length: f32) -> [f32; 3]
     ensures { result ≡ scaled_of vector length }
 {
     if ieee::bits::is_finite(length) && length > f32::EPSILON {
-        return vector.map(|x| x / length);
+        let [x, y, z] = vector;
+        return [x / length, y / length, z / length];
     }
     [0.0, 0.0, 1.0]
 }
