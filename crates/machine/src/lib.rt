@@ -9,12 +9,10 @@ ghost use Rattle.state.specs.State.{most_payload, fresh};
 ghost use Rattle.vpu.specs.Calls.{number_of, outcome, reset, feed};
 ghost use Rattle.machine.specs.Held.{held};
 
-use screen::plane::PLANE_BYTES;
+use screen::plane::{PIXELS, PLANE_BYTES};
 use state::State;
 use std::alloc::{AllocError, Global};
 use vpu::Answer;
-
-const PIXELS: usize = 76800;
 
 #[derive(Drop)]
 pub struct Machine {
