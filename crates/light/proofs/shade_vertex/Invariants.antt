@@ -5,4 +5,4 @@ use Rattle.light.specs.Light.{lit_of}
 use Rattle.light.proofs.shade_vertex.Given as goal
 
 abbrev pub invariant-loop-light : goal.invariant-loop-light
-invariant-loop-light l = lit_of l.albedo l.position l.normal l.view l.light-items l.initial.rgb ≡ lit_of l.albedo l.position l.normal l.view (drop l.light-index l.light-items) l.rgb
+invariant-loop-light l = lit_of l.albedo l.position l.normal l.view l.lights l.initial.rgb ≡ lit_of l.albedo l.position l.normal l.view (drop l.light-index l.lights) l.rgb
