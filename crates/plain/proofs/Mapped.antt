@@ -1,9 +1,37 @@
--- An array's `map`, whose calls give g of each element, is the list's map. Assumes nothing.
-use Rattle.std.proofs.Common.{◌≡◌, ℕ, suc, ◌<◌, List, [], ◌∷◌, length, get_or, map, arith, refl}
+-- A loop that fills one array from another, element by element, gives the map of it: after i turns the first i elements are the map's. Assumes nothing.
+use Prim.Native.Nat.{ℕ, ◌+◌, ◌≤◌, ◌<◌}
+use mathlib.Core.Path.{◌≡◌, sym, ap, ◌∙◌}
+use mathlib.Core.List.{List, [], ◌∷◌, ◌++◌, map}
+use native.Mathlib.Numerals.{add-one}
+use native.Mathlib.Omega.{arith}
+use lib.ListN.{length, take, get_or, set, length-map, length-set, get_or-map}
+use lib.Seq.{take_all, take-suc, take-suc-set}
 
-pub array_mapped : {A B : Type 0} (g : A → B) (xs : List A) (ys : List B) → length ys ≡ length xs
-    → ((i : ℕ) (d : A) (e : B) → i < length xs → get_or ys i e ≡ g (get_or xs i d)) → ys ≡ map g xs
-array_mapped g [] [] n h = refl
-array_mapped g [] (y ∷ ys) n h = absurd (omega arith)
-array_mapped g (x ∷ xs) [] n h = absurd (omega arith)
-array_mapped g (x ∷ xs) (y ∷ ys) n h = rw (h 0 x y (omega arith), array_mapped g xs ys (omega arith) (λ i d e l. h (suc i) d e (omega arith)))
+module _ {A B : Type 0} (f : A → B) (n : ℕ) (from : List A) where
+  -- `to` after i turns
+  pub record Mapped (i : ℕ) (to : List B) : Type 0 where
+    pub within : i ≤ n
+    pub long-from : length from ≡ n
+    pub long_to : length to ≡ n
+    pub done : take i to ≡ take i (map f from)
+
+module _ {A B : Type 0} {f : A → B} {n : ℕ} {from : List A} {i : ℕ} {to : List B} (m : Mapped f n from i to) where
+  pub mapped_more : (d : A) {v : B} → v ≡ f (get_or from i d) → i < n → Mapped f n from (i + 1) (set to i v)
+  mapped_more d {v} e h =
+      record {
+        within = omega arith;
+        long-from = m.long-from;
+        long_to = length-set to i v ∙ m.long_to;
+        done =
+            rw add-one
+            (take-suc-set to i v (omega (arith, m.long_to))
+            ∙ ap (λ (l : List B). l ++ (v ∷ [])) m.done
+            ∙ ap (λ (x : B). take i (map f from) ++ (x ∷ [])) (e ∙ sym (get_or-map f from i d))
+            ∙ sym (take-suc (map f from) i (f d) (omega (arith, m.long-from, length-map from f))));
+      }
+
+  pub mapped_all : n ≤ i → to ≡ map f from
+  mapped_all h =
+      sym (take_all i to (omega (arith, m.long_to)))
+      ∙ m.done
+      ∙ take_all i (map f from) (omega (arith, m.long-from, length-map from f))

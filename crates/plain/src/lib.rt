@@ -25,6 +25,17 @@ pub struct VpuLight {
     pub position: [f32; 3],
 }
 
+impl VpuLight {
+    const DARK: VpuLight = VpuLight {
+        enabled: 0,
+        ambient: [0.0; 3],
+        diffuse: [0.0; 3],
+        specular: [0.0; 3],
+        emission: [0.0; 3],
+        position: [0.0; 3],
+    };
+}
+
 #[repr(C)]
 #[derive(Clone, Copy, Debug, PartialEq)]
 pub struct VpuSlot {
@@ -33,6 +44,16 @@ pub struct VpuSlot {
     pub width: u32,
     pub height: u32,
     pub start: u32,
+}
+
+impl VpuSlot {
+    const UNUSED: VpuSlot = VpuSlot {
+        held: 0,
+        number: 0,
+        width: 0,
+        height: 0,
+        start: 0,
+    };
 }
 
 #[repr(C)]
@@ -134,6 +155,48 @@ impl From<Slot> for VpuSlot {
     }
 }
 
+// Arrays are turned element by element.
+// Stays: an array's `map` moves each element through an Option, and takes three times as long here.
+fn lights_in(lights: [VpuLight; 8]) -> [Light; 8]
+    ensures { result ≡ map light_in lights }
+{
+    let mut out = [Light::DISABLED; 8];
+    for i in 0..8 {
+        out[i] = Light::from(lights[i]);
+    }
+    out
+}
+
+fn lights_out(lights: [Light; 8]) -> [VpuLight; 8]
+    ensures { result ≡ map light_out lights }
+{
+    let mut out = [VpuLight::DARK; 8];
+    for i in 0..8 {
+        out[i] = VpuLight::from(lights[i]);
+    }
+    out
+}
+
+fn slots_in(slots: [VpuSlot; SLOTS]) -> [Slot; SLOTS]
+    ensures { result ≡ map slot_in slots }
+{
+    let mut out = [Slot::UNUSED; SLOTS];
+    for i in 0..SLOTS {
+        out[i] = Slot::from(slots[i]);
+    }
+    out
+}
+
+fn slots_out(slots: [Slot; SLOTS]) -> [VpuSlot; SLOTS]
+    ensures { result ≡ map slot_out slots }
+{
+    let mut out = [VpuSlot::UNUSED; SLOTS];
+    for i in 0..SLOTS {
+        out[i] = VpuSlot::from(slots[i]);
+    }
+    out
+}
+
 impl From<VpuState> for State {
     ghost from_gives = { λ v s. s ≡ state_in v };
 
@@ -146,12 +209,12 @@ impl From<VpuState> for State {
             matrices,
             shading_mode: v.shading_mode,
             lighting_enabled: v.lighting_enabled != 0,
-            lights: lights.map(Light::from),
+            lights: lights_in(lights),
         };
         State {
             settings,
-            textures: textures.map(Slot::from),
-            models: models.map(Slot::from),
+            textures: slots_in(textures),
+            models: slots_in(models),
             opcode: v.opcode,
             gathered: v.gathered,
             wanted: v.wanted,
@@ -177,9 +240,9 @@ impl From<State> for VpuState {
             matrices,
             shading_mode,
             lighting_enabled: u8::from(lighting_enabled),
-            lights: lights.map(VpuLight::from),
-            textures: textures.map(VpuSlot::from),
-            models: models.map(VpuSlot::from),
+            lights: lights_out(lights),
+            textures: slots_out(textures),
+            models: slots_out(models),
             opcode: s.opcode,
             gathered: s.gathered,
             wanted: s.wanted,
