@@ -4,6 +4,7 @@
 ghost use Rattle.std.specs.Prelude.{◌≡◌, ◌+◌, ◌≤◌, ◌<◌, length};
 ghost use Rattle.payload.specs.Words.{three_at, at_most, finite_from, color_of};
 
+use ieee::number::unit_float;
 use verdict::{Reason, Refused, Verdict, out_of_range};
 
 pub fn three_at(p: &[u32], i: usize) -> [f32; 3]
@@ -51,10 +52,11 @@ pub fn finite_from(p: &[u32], start: usize, n: usize) -> Verdict
 pub fn color_of(word: u32) -> [f32; 4]
     ensures { result ≡ color_of word }
 {
+    let [red, green, blue, alpha] = word.to_be_bytes();
     [
-        ieee::number::unit_float((word / 16777216) as u8),
-        ieee::number::unit_float((word / 65536 % 256) as u8),
-        ieee::number::unit_float((word / 256 % 256) as u8),
-        ieee::number::unit_float((word % 256) as u8),
+        unit_float(red),
+        unit_float(green),
+        unit_float(blue),
+        unit_float(alpha),
     ]
 }

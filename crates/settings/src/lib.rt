@@ -13,6 +13,8 @@ pub mod valid;
 #[derive(Clone, Copy, Debug, PartialEq)]
 pub struct Settings {
     pub matrices: [f32; 48],
+    // Stays: a number, since a host hands settings in with a state, and `settings_ok` says that it
+    // is 0 or 1 (`mode_not`); an enum would ask that of the host before.
     pub shading_mode: u32,
     pub lighting_enabled: bool,
     pub lights: [Light; 8],

@@ -14,6 +14,8 @@ pub const MAX_COMMAND_WORDS: u32 = 524291;
 
 // What the words so far have set, sent and begun. `gathered` words of the begun command are in the
 // command area, and `wanted` are missing.
+// Stays: the three are numbers, with opcode 0 for no command, since a host hands a state in and
+// `begun_ok` says which it may have; an Option of a begun command would ask that of the host before.
 #[derive(Clone, Copy, Debug, PartialEq)]
 pub struct State {
     pub settings: Settings,

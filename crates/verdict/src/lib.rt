@@ -129,16 +129,14 @@ pub fn not_invertible() -> Refused
 }
 
 // The one place where a reason becomes a status bit: 2 for a zero opcode, 6 for no room, else 3.
-fn bit_for(number: u32) -> u32
-    ensures { result ≡ bit_for number }
+fn bit_for(reason: Reason) -> u32
+    ensures { result ≡ bit_for (number_of reason) }
 {
-    if number == 1 {
-        return 4;
+    match reason {
+        Reason::ZeroOpcode => 4,
+        Reason::NoSlot | Reason::NoWords => 64,
+        _ => 8,
     }
-    if number <= 8 {
-        return 8;
-    }
-    64
 }
 
 // The status after a verdict: no bit is ever cleared.
@@ -147,7 +145,7 @@ fn status_after(status: u32, verdict: Verdict) -> u32
 {
     match verdict {
         Ok(()) => status,
-        Err(refused) => status | bit_for(u32::from(refused.reason)),
+        Err(refused) => status | bit_for(refused.reason),
     }
 }
 
