@@ -2,7 +2,7 @@
 // is accepted is lit and painted (`stroke`).
 #![tactic(auto)]
 
-ghost use Rattle.std.specs.Prelude.{◌≡◌, true, false, ◌+◌, ◌*◌, ◌≤◌, length, get_or};
+ghost use Rattle.std.specs.Prelude.{◌≡◌, true, false, ◌+◌, ◌/◌, ◌≤◌, length, get_or};
 ghost use Rattle.screen.specs.Plane.{plane_bytes};
 ghost use Rattle.screen.specs.Draw.{pixels};
 ghost use Rattle.stroke.specs.Strokes.{sheet, stroke_on, strokes_on};
@@ -10,31 +10,31 @@ ghost use Rattle.store.specs.Uploads.{is_some};
 ghost use Rattle.store.specs.Slots.{area_of, sides_ok, slots_ok, upload_at, look_in};
 ghost use Rattle.store.specs.declared.Kind.TheVariants as kind;
 ghost use Rattle.decide.specs.Corners.{words_of, normal_matrix_of};
-ghost use Rattle.decide.specs.Verdicts.{transformed_verdict, textured_verdict, records_verdict};
-ghost use Rattle.draw.specs.Draws.{flat_color, shaded_brush, transformed_strokes, textured_brush, textured_stroke, textured_strokes, records_strokes, model_strokes, has_in};
+ghost use Rattle.decide.specs.Verdicts.{transformed_verdict, checked_verdict, textured_verdict, records_verdict};
+ghost use Rattle.draw.specs.Draws.{flat_color, shaded_brush, transformed_strokes, textured_brush, textured_stroke, held_strokes, textured_strokes, records_strokes, model_strokes, has_in};
 ghost use Rattle.judge.specs.Judge.{model_verdict};
 
 use clip::vertex::ClipVertex;
+use decide::corner::normal_matrix;
+use judge::mode_and_number;
+use judge::model::triangle_of;
 use raster::ink::Color;
 use settings::Settings;
 use store::{Kind, SLOTS, Slot};
 use stroke::{Brush, Texture};
-use vector::normal::Inverse;
-use verdict::{Verdict, and_then};
+use vector::normal::Matrix3;
+use verdict::Verdict;
 
 // The colour of vertex 0, before clipping.
+#[tactic(auto, unfolding(crate::specs::Draws::flat_color))]
 fn flat_color(tri: [ClipVertex; 3]) -> Color
     ensures { result ≡ flat_color tri }
 {
-    let v = tri[0];
-    Color {
-        r: v.color[0],
-        g: v.color[1],
-        b: v.color[2],
-        a: v.color[3],
-    }
+    let [r, g, b, a] = tri[0].color;
+    Color { r, g, b, a }
 }
 
+#[tactic(auto, unfolding(crate::specs::Draws::shaded_brush))]
 fn shaded_brush(shading_mode: u32, tri: [ClipVertex; 3]) -> Brush
     ensures { result ≡ shaded_brush shading_mode tri }
 {
@@ -45,6 +45,7 @@ fn shaded_brush(shading_mode: u32, tri: [ClipVertex; 3]) -> Brush
 }
 
 // 14, and with normals 16.
+#[tactic(auto, unfolding(crate::specs::Draws::transformed_strokes, crate::specs::Draws::transformed_corners, stroke::specs::Strokes::strokes_on))]
 pub fn draw_transformed_triangle(
     plane: &mut [u8],
     depth_f32: &mut [f32],
@@ -58,13 +59,7 @@ pub fn draw_transformed_triangle(
     ensures value { result ≡ transformed_verdict p.now has_normal s.matrices }
     ensures depth_f32_after { sheet plane.new depth_f32.new ≡ strokes_on (transformed_strokes s p.now has_normal) (sheet plane.old depth_f32.old) }
 {
-    let m = s.matrices;
-    let checked = decide::verdicts::transformed(p, has_normal, &m);
-    let verdict = checked.verdict;
-    let Verdict::Done = verdict else {
-        return verdict;
-    };
-    let corners = checked.corners;
+    let corners = decide::verdicts::transformed(p, has_normal, &s.matrices)?;
     let lights = s.lights;
     let tri = lit::transformed_lit(
         corners,
@@ -73,16 +68,12 @@ pub fn draw_transformed_triangle(
         s.shading_mode,
         lights,
     );
-    stroke::paint(
-        plane,
-        depth_f32,
-        tri,
-        shaded_brush(s.shading_mode, tri),
-        &[],
-    );
-    verdict
+    let brush = shaded_brush(s.shading_mode, tri);
+    stroke::paint(plane, depth_f32, tri, brush, &[]);
+    Ok(())
 }
 
+#[tactic(auto, unfolding(crate::specs::Draws::textured_brush))]
 fn textured_brush(slot: Slot, mode: u32, tri: [ClipVertex; 3]) -> Brush
     ensures { result ≡ textured_brush slot.width slot.height mode tri }
 {
@@ -119,6 +110,35 @@ fn paint_textured(
     stroke::paint(plane, depth_f32, tri, brush, &textures[start..start + size]);
 }
 
+// 18 and 19 with the texture's slot and the matrix for normals in hand: what is tested after the mode
+// and the number, and what is painted then.
+#[tactic(auto, unfolding(crate::specs::Draws::held_strokes, crate::specs::Draws::textured_corners, crate::specs::Draws::textured_stroke, stroke::specs::Strokes::strokes_on))]
+fn draw_held(
+    plane: &mut [u8],
+    depth_f32: &mut [f32],
+    p: &[u32],
+    has_normal: bool,
+    s: Settings,
+    inverse: Option<Matrix3>,
+    slot: Slot,
+    textures: &[u32],
+) -> Verdict
+    requires plane_len { length plane.old ≡ plane_bytes }
+    requires depth_f32_len { length depth_f32.old ≡ pixels }
+    requires p_len { length p.now ≡ words_of has_normal true }
+    requires inverse_value { inverse ≡ normal_matrix_of s.matrices has_normal }
+    requires height_value { sides_ok kind.Texture slot.width slot.height ≡ true }
+    requires height_in_bounds { slot.start + area_of kind.Texture slot.width slot.height ≤ length textures.now }
+    ensures value { result ≡ checked_verdict p.now has_normal s.matrices }
+    ensures depth_f32_after { sheet plane.new depth_f32.new ≡ strokes_on (held_strokes s p.now has_normal slot.width slot.height (upload_at kind.Texture slot textures.now).words) (sheet plane.old depth_f32.old) }
+{
+    let corners = decide::verdicts::textured(p, has_normal, &s.matrices, inverse)?;
+    paint_textured(
+        plane, depth_f32, corners, has_normal, s, p[1], slot, textures,
+    );
+    Ok(())
+}
+
 // 18, and with normals 19.
 pub fn draw_textured_triangle(
     plane: &mut [u8],
@@ -136,27 +156,18 @@ pub fn draw_textured_triangle(
     ensures value { result ≡ textured_verdict p.now has_normal (is_some (look_in kind.Texture slots textures.now (get_or p.now 0 0))) s.matrices }
     ensures depth_f32_after { sheet plane.new depth_f32.new ≡ strokes_on (textured_strokes s p.now has_normal (look_in kind.Texture slots textures.now (get_or p.now 0 0))) (sheet plane.old depth_f32.old) }
 {
-    let m = s.matrices;
-    let judged = judge::textured(p, has_normal, &m, slots);
-    let verdict = judged.verdict;
-    let Verdict::Done = verdict else {
-        return verdict;
-    };
-    let corners = judged.corners;
-    let slot = judged.slot;
-    paint_textured(
-        plane, depth_f32, corners, has_normal, s, p[1], slot, textures,
-    );
-    verdict
+    let slot = mode_and_number(p, slots)?;
+    let inverse = normal_matrix(&s.matrices, has_normal);
+    draw_held(plane, depth_f32, p, has_normal, s, inverse, slot, textures)
 }
 
-// A triangle of a model, with the matrix for normals handed in.
+// A triangle of a model, with the matrix for normals handed in: the records of a model share one.
 fn draw_record(
     plane: &mut [u8],
     depth_f32: &mut [f32],
     p: &[u32],
     s: Settings,
-    inverse: Inverse,
+    inverse: Option<Matrix3>,
     slots: [Slot; SLOTS],
     textures: &[u32],
 ) -> Verdict
@@ -168,19 +179,11 @@ fn draw_record(
     ensures value { result ≡ textured_verdict p.now true (is_some (look_in kind.Texture slots textures.now (get_or p.now 0 0))) s.matrices }
     ensures depth_f32_after { sheet plane.new depth_f32.new ≡ strokes_on (textured_strokes s p.now true (look_in kind.Texture slots textures.now (get_or p.now 0 0))) (sheet plane.old depth_f32.old) }
 {
-    let m = s.matrices;
-    let judged = judge::model_triangle(p, &m, inverse, slots);
-    let verdict = judged.verdict;
-    let Verdict::Done = verdict else {
-        return verdict;
-    };
-    let corners = judged.corners;
-    let slot = judged.slot;
-    paint_textured(plane, depth_f32, corners, true, s, p[1], slot, textures);
-    verdict
+    let slot = mode_and_number(p, slots)?;
+    draw_held(plane, depth_f32, p, true, s, inverse, slot, textures)
 }
 
-// The first n records, each painted if it is not refused.
+// The records, each painted if it is not refused.
 fn draw_records(
     plane: &mut [u8],
     depth_f32: &mut [f32],
@@ -189,25 +192,19 @@ fn draw_records(
     textures: &[u32],
     mode: u32,
     words: &[u32],
-    n: usize,
 ) -> Verdict
     requires plane_len { length plane.old ≡ plane_bytes }
     requires depth_f32_len { length depth_f32.old ≡ pixels }
     requires slots_value { slots_ok kind.Texture (length textures.now) 0 slots ≡ true }
-    requires words_len { length words.now ≡ 28 * n }
-    requires n_bound { n ≤ 18724 }
-    ensures value { result ≡ records_verdict mode (has_in (look_in kind.Texture slots textures.now)) s.matrices n words.now }
-    ensures depth_f32_after { sheet plane.new depth_f32.new ≡ strokes_on (records_strokes s mode (look_in kind.Texture slots textures.now) n words.now) (sheet plane.old depth_f32.old) }
+    ensures value { result ≡ records_verdict mode (has_in (look_in kind.Texture slots textures.now)) s.matrices (length words.now / 28) words.now }
+    ensures depth_f32_after { sheet plane.new depth_f32.new ≡ strokes_on (records_strokes s mode (look_in kind.Texture slots textures.now) (length words.now / 28) words.now) (sheet plane.old depth_f32.old) }
 {
-    let m = s.matrices;
-    let inverse = decide::corner::normal_matrix(&m, true);
-    let mut verdict = Verdict::Done;
-    let mut k: usize = 0;
-    while k < n {
-        let triangle = judge::model::triangle_of(words, 28 * k, mode);
+    let inverse = normal_matrix(&s.matrices, true);
+    let mut verdict: Verdict = Ok(());
+    for record in words.chunks_exact(28) {
+        let triangle = triangle_of(record, mode);
         let one = draw_record(plane, depth_f32, &triangle, s, inverse, slots, textures);
-        verdict = and_then(verdict, one);
-        k += 1;
+        verdict = verdict.and(one);
     }
     verdict
 }
@@ -231,14 +228,9 @@ pub fn draw_model(
     ensures value { result ≡ model_verdict p.now (has_in (look_in kind.Texture slots textures.now)) s.matrices (look_in kind.Model model_slots models.now (get_or p.now 0 0)) }
     ensures depth_f32_after { sheet plane.new depth_f32.new ≡ strokes_on (model_strokes s p.now (look_in kind.Texture slots textures.now) (look_in kind.Model model_slots models.now (get_or p.now 0 0))) (sheet plane.old depth_f32.old) }
 {
-    let named = judge::mode_and_number(p, model_slots);
-    let verdict = named.verdict;
-    let Verdict::Done = verdict else {
-        return verdict;
-    };
-    let slot = named.slot;
+    let slot = mode_and_number(p, model_slots)?;
     let start = slot.start as usize;
-    let count = slot.width as usize;
+    let end = start + 28 * slot.width as usize;
     draw_records(
         plane,
         depth_f32,
@@ -246,7 +238,6 @@ pub fn draw_model(
         slots,
         textures,
         p[1],
-        &models[start..start + 28 * count],
-        count,
+        &models[start..end],
     )
 }

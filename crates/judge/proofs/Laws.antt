@@ -51,7 +51,7 @@ module _ {A : Type 0} where
 
 module _ (p : List ℕ) (slots : List Slot) where
   module _ {named : Result Slot Refused} (e : named ≡ passed (named_verdict p slots) (slot_by p slots)) where
-    named_refused : {x : Refused} → named ≡ Err x → named_verdict p slots ≡ Err x
+    pub named_refused : {x : Refused} → named ≡ Err x → named_verdict p slots ≡ Err x
     named_refused h = verdict_of (named_verdict p slots) (slot_by p slots) (sym e ∙ h)
 
     module _ {slot : Slot} (h : named ≡ Ok slot) where
@@ -95,7 +95,7 @@ module _ (p : List ℕ) (slots : List Slot) where
 -- ---- a model's records
 -- a record, and the words behind it
 module _ (front rest : List ℕ) (h : length front ≡ 28) where
-  front_word : word_at (front ++ rest) 0 ≡ word_at front 0
+  pub front_word : word_at (front ++ rest) 0 ≡ word_at front 0
   front_word = get_or-append front rest 0 0 (omega arith)
 
   pub front_triangle : (mode : ℕ) → triangle_of mode (front ++ rest) ≡ triangle_of mode front
@@ -104,10 +104,10 @@ module _ (front rest : List ℕ) (h : length front ≡ 28) where
       let most : take 27 (drop 1 front ++ rest) ≡ take 27 (drop 1 front) = take-append-le 27 (drop 1 front) rest (omega (arith, length-drop 1 front)) in
       rw (front_word, one, most)
 
-  behind : drop 28 (front ++ rest) ≡ rest
+  pub behind : drop 28 (front ++ rest) ≡ rest
   behind = rw (← h) (drop-append_seam front rest)
 
-  one_more : length (front ++ rest) / 28 ≡ suc (length rest / 28)
+  pub one_more : length (front ++ rest) / 28 ≡ suc (length rest / 28)
   one_more = omega (arith, length-append front rest)
 
   -- the first record, and with it those behind it

@@ -4,17 +4,12 @@
 
 pub mod model;
 
-ghost use Rattle.std.specs.Prelude.{◌≡◌, true, ◌≤◌, length};
+ghost use Rattle.std.specs.Prelude.{◌≡◌, ◌≤◌, length};
 ghost use Rattle.payload.specs.Words.{passed};
-ghost use Rattle.decide.specs.Corners.{words_of, normal_matrix_of};
-ghost use Rattle.decide.specs.Verdicts.{textured_verdict};
-ghost use Rattle.judge.specs.Judge.{held_in, named_verdict, slot_by, judged_by};
+ghost use Rattle.judge.specs.Judge.{named_verdict, slot_by};
 
-use clip::vertex::ClipVertex;
-use decide::corner::normal_matrix;
 use payload::at_most;
 use store::{SLOTS, Slot};
-use vector::normal::Matrix3;
 use verdict::{Verdict, not_held};
 
 // The first two checks of 18, 19 and 1B, and the slot under the number: the mode, which is word 1,
@@ -26,40 +21,4 @@ pub fn mode_and_number(p: &[u32], slots: [Slot; SLOTS]) -> Verdict<Slot>
 {
     at_most(p, 1, 2)?;
     store::slots::find(slots, p[0]).ok_or(not_held())
-}
-
-// What is to be lit and painted: the texture's slot, and the corners.
-#[derive(Clone, Copy, Debug, PartialEq)]
-pub struct Judged {
-    pub slot: Slot,
-    pub corners: [ClipVertex; 3],
-}
-
-// 18, and with normals 19.
-#[tactic(auto, unfolding(crate::specs::Judge::judged_by, crate::specs::Judge::named_verdict, decide::specs::Verdicts::textured_verdict))]
-pub fn textured(p: &[u32], has_normal: bool, m: &[f32; 48], slots: [Slot; SLOTS]) -> Verdict<Judged>
-    requires { length p.now ≡ words_of has_normal true }
-    ensures { result ≡ judged_by p.now has_normal m.now slots }
-{
-    let slot = mode_and_number(p, slots)?;
-    let inverse = normal_matrix(m, has_normal);
-    let corners = decide::verdicts::textured(p, has_normal, m, inverse)?;
-    Ok(Judged { slot, corners })
-}
-
-// A triangle of a model, which is judged as a 19, with the matrix for normals handed in.
-#[tactic(auto, unfolding(crate::specs::Judge::judged_by, crate::specs::Judge::named_verdict, decide::specs::Verdicts::textured_verdict))]
-pub fn model_triangle(
-    p: &[u32],
-    m: &[f32; 48],
-    inverse: Option<Matrix3>,
-    slots: [Slot; SLOTS],
-) -> Verdict<Judged>
-    requires p_len { length p.now ≡ 29 }
-    requires inverse_value { inverse ≡ normal_matrix_of m.now true }
-    ensures { result ≡ judged_by p.now true m.now slots }
-{
-    let slot = mode_and_number(p, slots)?;
-    let corners = decide::verdicts::textured(p, true, m, inverse)?;
-    Ok(Judged { slot, corners })
 }

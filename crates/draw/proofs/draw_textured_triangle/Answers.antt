@@ -1,32 +1,45 @@
--- Decided first; what is accepted is painted. Assumes nothing.
-use mathlib.Core.Path.{◌≡◌}
-use borrow.Author.Rules.{rules}
-use lib.ListN.{length, get_or}
+-- The mode and the number first, and then what is checked and painted with the slot. Assumes nothing.
+use Rattle.std.proofs.Common.{◌≡◌, ◌∙◌, sym, rules, length, get_or}
+use Rattle.std.specs.Prelude.{Some}
+use Rattle.stroke.specs.Strokes.{strokes_on}
 use Rattle.store.specs.Slots.{slot_for}
 use Rattle.store.specs.declared.Kind.TheVariants.{Texture}
-use Rattle.store.specs.declared.Found.TheVariants.{At}
-use Rattle.stroke.specs.Strokes.{sheet}
 use Rattle.store.proofs.Places.{sides-at, inside-at}
-use Rattle.draw.proofs.Laws.{judged_refused, judged_found, judged_done}
+use Rattle.judge.proofs.Laws.{found_by}
+use Rattle.draw.proofs.Laws.{texture_refused, texture_named}
 use Rattle.draw.proofs.draw_textured_triangle.Goals as goal
-use Rattle.draw.proofs.draw_textured_triangle.Goals.{After-textured-judged, In-Done, Start}
+use Rattle.draw.proofs.draw_textured_triangle.Goals.{In_ok-slot, Start}
 
 long : (c : Start) → length c.args.slots ≡ 64
 long c = search rules
 
--- where it is decided, and where it begins
-found_at : (c : In-Done) → slot_for (get_or c.args.p.now 0 0) c.args.slots ≡ At c.textured-judged.result.slot
-found_at c =
-    judged_found c.args.s c.args.p.now c.args.has_normal (sheet c.args.plane.now c.args.depth_f32.now) c.args.slots c.args.textures.now c.textured-judged.ensures.verdict_value c.in-Done.is c.textured-judged.ensures.slot_value
+found_at : (c : In_ok-slot) → slot_for (get_or c.args.p.now 0 0) c.args.slots ≡ Some c.in_ok-slot.slot
+found_at c = found_by _ _ c.mode_and_number.ensures c.in_ok-slot.was
 
-pub returns-in_default : goal.returns-in_default
-returns-in_default c = let both = judged_refused c.args.s c.args.p.now c.args.has_normal (sheet c.args.plane.now c.args.depth_f32.now) c.args.slots c.args.textures.now c.textured-judged.ensures.verdict_value c.in_default.is in
-    record { value = both.0; depth_f32_after = both.1 }
+pub returns-in_err-slot-clause-value : goal.returns-in_err-slot-clause-value
+returns-in_err-slot-clause-value c =
+    let r = (texture_refused c.args.s c.args.p.now c.args.has_normal c.args.slots c.args.textures.now c.mode_and_number.ensures c.in_err-slot.was).0 in
+    rw r (search rules)
 
-pub paint_textured-requires : goal.paint_textured-requires
-paint_textured-requires c = let slot = c.textured-judged.result.slot in
-    let number = get_or c.args.p.now 0 0 in record { plane_len = c.requires.plane_len; depth_f32_len = c.requires.depth_f32_len; height_value = sides-at Texture c.args.slots c.args.textures.now number (long (goal.at.paint_textured-requires c).Start) c.requires.slots_value slot (found_at (goal.at.paint_textured-requires c).In-Done); height_in_bounds = inside-at Texture c.args.slots c.args.textures.now number (long (goal.at.paint_textured-requires c).Start) c.requires.slots_value slot (found_at (goal.at.paint_textured-requires c).In-Done) }
+pub returns-in_err-slot-clause-depth_f32_after : goal.returns-in_err-slot-clause-depth_f32_after
+unfolding strokes_on
+returns-in_err-slot-clause-depth_f32_after c =
+    let r = (texture_refused c.args.s c.args.p.now c.args.has_normal c.args.slots c.args.textures.now c.mode_and_number.ensures c.in_err-slot.was).1 in
+    rw r
 
-pub returns : goal.returns
-returns c = let both = judged_done c.args.s c.args.p.now c.args.has_normal (sheet c.args.plane.now c.args.depth_f32.now) c.args.slots c.args.textures.now c.textured-judged.ensures.verdict_value c.in-Done.is c.textured-judged.ensures.slot_value _ _ c.textured-judged.ensures.corners_value c.paint_textured.ensures in
-    record { value = both.0; depth_f32_after = both.1 }
+pub draw_held-requires-clause-height_value : goal.draw_held-requires-clause-height_value
+draw_held-requires-clause-height_value c =
+    sides-at Texture c.args.slots c.args.textures.now (get_or c.args.p.now 0 0) (long (goal.at.draw_held-requires-clause-height_value c).Start) c.requires.slots_value c.in_ok-slot.slot (found_at (goal.at.draw_held-requires-clause-height_value c).In_ok-slot)
+
+pub draw_held-requires-clause-height_in_bounds : goal.draw_held-requires-clause-height_in_bounds
+draw_held-requires-clause-height_in_bounds c =
+    inside-at Texture c.args.slots c.args.textures.now (get_or c.args.p.now 0 0) (long (goal.at.draw_held-requires-clause-height_in_bounds c).Start) c.requires.slots_value c.in_ok-slot.slot (found_at (goal.at.draw_held-requires-clause-height_in_bounds c).In_ok-slot)
+
+pub returns-clause-value : goal.returns-clause-value
+returns-clause-value c =
+    c.draw_held.ensures.value ∙ sym (texture_named c.args.s c.args.p.now c.args.has_normal c.args.slots c.args.textures.now c.mode_and_number.ensures c.in_ok-slot.was).0
+
+pub returns-clause-depth_f32_after : goal.returns-clause-depth_f32_after
+returns-clause-depth_f32_after c =
+    let r = (texture_named c.args.s c.args.p.now c.args.has_normal c.args.slots c.args.textures.now c.mode_and_number.ensures c.in_ok-slot.was).1 in
+    rw r c.draw_held.ensures.depth_f32_after
