@@ -73,6 +73,7 @@ fn draw_rows(plane: &mut [u8], depth: &mut [i32], s: &Solid)
 }
 
 // The same triangle, its corners taken the other way round: its area and its edges change sign.
+#[tactic(auto, unfolding(crate::specs::Drawing::turned_of))]
 fn turned(t: Tri) -> Tri
     ensures { result ≡ turned_of t }
 {

@@ -15,6 +15,7 @@ fn edge(a: Corner, b: Corner, p: Corner) -> i64
     (p.x - a.x) * (b.y - a.y) - (p.y - a.y) * (b.x - a.x)
 }
 
+#[tactic(auto, unfolding(crate::specs::Tri::area_of))]
 pub fn area_of(t: Tri) -> i64
     requires { Placed t }
     ensures { result ≡ area_of t }
@@ -39,6 +40,7 @@ fn line_of(a: Corner, b: Corner, py: i64) -> Line
     }
 }
 
+#[tactic(auto, unfolding(crate::specs::Row::on_line))]
 pub fn at_column(line: Line, x: usize) -> i64
     requires in_row { InRow line }
     requires x_lt_width { x < width }
@@ -63,6 +65,7 @@ pub struct Edges {
     pub w2: Line,
 }
 
+#[tactic(auto, unfolding(crate::specs::Row::edges_of))]
 pub fn edges_of(t: Tri, y: usize) -> Edges
     requires placed { Placed t }
     requires y_lt_height { y < height }

@@ -34,6 +34,7 @@ pub fn signed(word: u32) -> i64
     i64::from(word.cast_signed())
 }
 
+#[tactic(auto, unfolding(crate::specs::Words::in_reach))]
 pub fn in_reach(word: u32) -> bool
     ensures { result ≡ in_reach (to_z w32 word) }
 {
@@ -64,6 +65,7 @@ pub fn verdict_of(p: &[u32]) -> Verdict
 }
 
 // A channel under a shade, of which 255 is the whole.
+#[tactic(auto, unfolding(crate::specs::Words::shaded_of))]
 fn shaded(channel: u32, shade: u32) -> u8
     requires { channel < 256 }
     ensures { result ≡ shaded_of channel shade }
@@ -83,6 +85,7 @@ fn corner_of(p: &[u32], at: usize) -> Corner
     }
 }
 
+#[tactic(auto, unfolding(crate::specs::Words::tri_of))]
 pub fn tri_of(p: &[u32]) -> Tri
     requires { length p.now ≡ 11 }
     ensures { result ≡ tri_of p.now }

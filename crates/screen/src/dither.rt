@@ -14,6 +14,7 @@ pub fn threshold(x: usize, y: usize) -> u8
 }
 
 // The original cuts the level at 31. It never passes 31: 255 * 31 leaves no remainder.
+#[tactic(auto, unfolding(crate::specs::Dither::level_of))]
 fn level(channel: u8, threshold: u8) -> u32
     ensures value { result ≡ level_of channel threshold }
     ensures upper_bound { result ≤ 31 }
@@ -28,6 +29,7 @@ fn level(channel: u8, threshold: u8) -> u32
 }
 
 // One channel. The original maps this over three, at (x, y), whose threshold is handed in here.
+#[tactic(auto, unfolding(crate::specs::Dither::dither_of))]
 pub fn rgb555_dither(channel: u8, threshold: u8) -> u8
     ensures { result ≡ dither_of channel threshold }
 {

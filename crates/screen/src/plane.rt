@@ -36,6 +36,7 @@ impl Rgba {
 #[derive(Clone, Copy, Debug, PartialEq, Eq)]
 pub struct WrongLength;
 
+#[tactic(auto, unfolding(crate::specs::Plane::pixel_of))]
 pub fn pixel(plane: &[u8], x: usize, y: usize) -> Result<Rgba, WrongLength>
     ensures { answered result ≡ pixel_of plane.now x y }
 {

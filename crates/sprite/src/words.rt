@@ -51,6 +51,7 @@ pub fn verdict_of(p: &[u32], width: u32, height: u32) -> Verdict
     coordinate(p, 6)
 }
 
+#[tactic(auto, unfolding(crate::specs::Words::sprite_of))]
 pub fn sprite_of(p: &[u32], stride: u32) -> Sprite
     requires { length p.now ≡ 7 }
     ensures { result ≡ sprite_of p.now stride }
