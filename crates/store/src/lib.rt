@@ -11,6 +11,8 @@ ghost use Rattle.std.specs.Prelude.{◌≡◌, true, ◌≤◌, length};
 ghost use Rattle.store.specs.Uploads.{most_words};
 ghost use Rattle.store.specs.Slots.{area_of, sides_ok, no_slot, slots_ok, Uploaded, whole_of};
 
+use slots::Shelf;
+
 pub const SLOTS: usize = 64;
 
 // What a store holds.
@@ -72,7 +74,8 @@ pub fn upload(
     requires words_len { length words.now ≡ area_of kind width height }
     ensures { Uploaded kind slots store.old (whole_of number width height words.now) result store.new }
 {
-    slots::room_for(kind, slots, store.len(), number, words.len())?;
-    words::put(kind, slots, store, number, words);
-    Ok(slots::slots_after(kind, slots, number, width, height))
+    let shelf = Shelf { kind, slots };
+    shelf.room_for(store.len(), number, words.len())?;
+    words::put(shelf, store, number, words);
+    Ok(shelf.slots_after(number, width, height))
 }

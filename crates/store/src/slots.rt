@@ -43,36 +43,6 @@ pub struct Usage {
     pub total: usize,
 }
 
-pub fn used_by_others(kind: Kind, slots: [Slot; SLOTS], number: u32) -> Usage
-    requires { total (told kind slots) ≤ most_words }
-    ensures { (result.count ≡ length (without number (told kind slots))) × (result.total ≡ total (without number (told kind slots))) }
-{
-    others(kind, slots, number).usage
-}
-
-// Is there room for so many words under this number, in a store of `size` words? An old upload under
-// the number would leave both its slot and its words, so only the other numbers count.
-pub fn room_for(
-    kind: Kind,
-    slots: [Slot; SLOTS],
-    size: usize,
-    number: u32,
-    words: usize,
-) -> Result<(), NoRoom>
-    requires slots_bound { total (told kind slots) ≤ most_words }
-    requires words_le_most_words { words ≤ most_words }
-    ensures { result ≡ room size (told kind slots) number words }
-{
-    let used = used_by_others(kind, slots, number);
-    if SLOTS <= used.count {
-        return Err(NoRoom::NoSlot);
-    }
-    if size < used.total + words {
-        return Err(NoRoom::NoWords);
-    }
-    Ok(())
-}
-
 // The uploads under other numbers, closed up.
 #[derive(Clone, Copy)]
 struct Left {
@@ -80,50 +50,74 @@ struct Left {
     usage: Usage,
 }
 
-fn others(kind: Kind, slots: [Slot; SLOTS], number: u32) -> Left
-    requires { total (told kind slots) ≤ most_words }
-    ensures slots_value { result.slots ≡ slots_of (without number (told kind slots)) }
-    ensures count_value { (result.usage.count ≡ length (without number (told kind slots))) × (result.usage.total ≡ total (without number (told kind slots))) }
-{
-    let mut left = [Slot::UNUSED; SLOTS];
-    let mut count = 0;
-    let mut total = 0;
-    for s in slots {
-        if keeps(s, number) {
-            left[count] = Slot {
-                start: total as u32,
-                ..s
-            };
-            count += 1;
-            total += area(kind, s.width, s.height);
-        }
-    }
-    Left {
-        slots: left,
-        usage: Usage { count, total },
-    }
+// The slots of one kind. A store of the greatest size has room for their areas.
+#[derive(Clone, Copy)]
+pub struct Shelf {
+    pub kind: Kind,
+    pub slots: [Slot; SLOTS],
+    ghost in_range: { total (told kind slots) ≤ most_words },
 }
 
-// The slots after an upload that has room.
-pub fn slots_after(
-    kind: Kind,
-    slots: [Slot; SLOTS],
-    number: u32,
-    width: u32,
-    height: u32,
-) -> [Slot; SLOTS]
-    requires slots_bound { total (told kind slots) ≤ most_words }
-    requires slots_len_bound { length (without number (told kind slots)) < slot_count }
-    ensures { result ≡ slots_after (card_of kind number width height) (told kind slots) }
-{
-    let left = others(kind, slots, number);
-    let mut out = left.slots;
-    out[left.usage.count] = Slot {
-        held: true,
-        number,
-        width,
-        height,
-        start: left.usage.total as u32,
-    };
-    out
+impl Shelf {
+    fn others(self, number: u32) -> Left
+        ensures slots_value { result.slots ≡ slots_of (without number (told self.kind self.slots)) }
+        ensures count_value { (result.usage.count ≡ length (without number (told self.kind self.slots))) × (result.usage.total ≡ total (without number (told self.kind self.slots))) }
+    {
+        let mut left = [Slot::UNUSED; SLOTS];
+        let mut count = 0;
+        let mut total = 0;
+        for s in self.slots {
+            if keeps(s, number) {
+                left[count] = Slot {
+                    start: total as u32,
+                    ..s
+                };
+                count += 1;
+                total += area(self.kind, s.width, s.height);
+            }
+        }
+        Left {
+            slots: left,
+            usage: Usage { count, total },
+        }
+    }
+
+    pub fn used_by_others(self, number: u32) -> Usage
+        ensures { (result.count ≡ length (without number (told self.kind self.slots))) × (result.total ≡ total (without number (told self.kind self.slots))) }
+    {
+        self.others(number).usage
+    }
+
+    // Is there room for so many words under this number, in a store of `size` words? An old upload
+    // under the number would leave both its slot and its words, so only the other numbers count.
+    pub fn room_for(self, size: usize, number: u32, words: usize) -> Result<(), NoRoom>
+        requires { words ≤ most_words }
+        ensures { result ≡ room size (told self.kind self.slots) number words }
+    {
+        let used = self.used_by_others(number);
+        if SLOTS <= used.count {
+            return Err(NoRoom::NoSlot);
+        }
+        if size < used.total + words {
+            return Err(NoRoom::NoWords);
+        }
+        Ok(())
+    }
+
+    // The slots after an upload that has room.
+    pub fn slots_after(self, number: u32, width: u32, height: u32) -> [Slot; SLOTS]
+        requires { length (without number (told self.kind self.slots)) < slot_count }
+        ensures { result ≡ slots_after (card_of self.kind number width height) (told self.kind self.slots) }
+    {
+        let left = self.others(number);
+        let mut out = left.slots;
+        out[left.usage.count] = Slot {
+            held: true,
+            number,
+            width,
+            height,
+            start: left.usage.total as u32,
+        };
+        out
+    }
 }

@@ -1,10 +1,8 @@
 -- `store::upload` meets its contract: well-formed slots hold no more words than the store has, and an upload that has room has a slot. Assumes nothing.
-use Prim.Native.Nat.{◌≤◌}
 use mathlib.Core.Path.{sym, ◌∙◌}
 use native.Mathlib.Omega.{arith}
 use borrow.Author.Rules.{rules}
 use lib.ListN.{length}
-use Rattle.store.specs.Uploads.{total, most_words}
 use Rattle.store.specs.Slots.{told}
 use Rattle.store.proofs.Laws.{Space, space}
 use Rattle.store.proofs.Held.{Formed, ok_formed}
@@ -15,14 +13,10 @@ formed : (c : Start) → let a = c.args in Formed a.kind (length a.store.now) a.
 formed c = let a = c.args in
     ok_formed a.kind (length a.store.now) a.slots (search rules) c.requires.slots_value
 
-bound : (c : Start) → total (told c.args.kind c.args.slots) ≤ most_words
-bound c = omega (arith, (formed c).fits)
-
-pub room_for-requires-clause-slots_bound : goal.room_for-requires-clause-slots_bound
-room_for-requires-clause-slots_bound c = bound (goal.at.room_for-requires-clause-slots_bound c).Start
+pub invariant_of-shelf : goal.invariant_of-shelf
+invariant_of-shelf c = record { in_range = omega (arith, (formed (goal.at.invariant_of-shelf c).Start).fits) }
 
 pub slots_after-requires : goal.slots_after-requires
 slots_after-requires c = let a = c.args in
-    let start = (goal.at.slots_after-requires c).Start in
-    let left : Space (length a.store.now) (told a.kind a.slots) a.number (length a.words.now) = space (length a.store.now) (told a.kind a.slots) a.number (length a.words.now) (formed start).few (sym c.room_for.ensures ∙ c.in_ok-room_for.was) in
-    omega (arith, bound start)
+    let left : Space (length a.store.now) (told a.kind a.slots) a.number (length a.words.now) = space (length a.store.now) (told a.kind a.slots) a.number (length a.words.now) (formed (goal.at.slots_after-requires c).Start).few (sym c.room_for.ensures ∙ c.in_ok-room_for.was) in
+    omega arith

@@ -6,8 +6,8 @@ use native.Mathlib.Omega.{arith}
 use Rattle.store.specs.Slots.{no_slot, stays}
 use Rattle.laws.proofs.Bools.{and_left}
 use Rattle.store.proofs.Walk.{tally_count, tally_sum, tally_more, packed_more, packed_same}
-use Rattle.store.proofs.slots.others.Goals as goal
-use Rattle.store.proofs.slots.others.Goals.{then-keeps, else-keeps}
+use Rattle.store.proofs.slots.Shelf.others.Goals as goal
+use Rattle.store.proofs.slots.Shelf.others.Goals.{then-keeps, else-keeps}
 
 pub overflow_cast-left : goal.overflow_cast-left
 overflow_cast-left c = omega (arith, tally_sum c.loop-s.invariant.tally)
@@ -27,7 +27,7 @@ overflow_add-total c = let next = tally_more c.loop-s.invariant.tally (omega ari
 
 -- a slot that stays is held, so that its copy is
 pub loop-s-preserved : goal.loop-s-preserved
-loop-s-preserved c = let s = get_or c.args.slots c.loop-s.s-index no_slot in
+loop-s-preserved c = let s = get_or c.args.self.slots c.loop-s.s-index no_slot in
     elim c.if-keeps.branch [
       | then-keeps w ↦ let stay : stays c.args.number s ≡ true = sym c.keeps.ensures ∙ w.if-keeps.true in
           let held : s.held ≡ true = and_left s.held (not (eqb s.number c.args.number)) stay in
