@@ -9,6 +9,7 @@ ghost use Rattle.raster.specs.Ink.{Texture};
 
 use clip::vertex::ClipVertex;
 use raster::ink::Color;
+use vertex_c::record::vertex;
 
 // 0 if the triangle is drawn, else one more than the index of the word that is refused.
 pub fn triangle_flat(plane: &mut [u8], depth: &mut [i32], p: &[u32]) -> u32
@@ -25,7 +26,7 @@ pub fn triangle_flat(plane: &mut [u8], depth: &mut [i32], p: &[u32]) -> u32
 fn corners(x: &[f32]) -> [ClipVertex; 3]
     requires { 48 ≤ length x.now }
 {
-    [0, 16, 32].map(|at| vertex_c::record::vertex(x, at))
+    [vertex(x, 0), vertex(x, 16), vertex(x, 32)]
 }
 
 fn color(x: &[f32]) -> Color
