@@ -60,13 +60,12 @@ pub fn draw_transformed_triangle(
     ensures depth_f32_after { sheet plane.new depth_f32.new ≡ strokes_on (transformed_strokes s p.now has_normal) (sheet plane.old depth_f32.old) }
 {
     let corners = decide::verdicts::transformed(p, has_normal, &s.matrices)?;
-    let lights = s.lights;
     let tri = lit::transformed_lit(
         corners,
         has_normal,
         s.lighting_enabled,
         s.shading_mode,
-        lights,
+        &s.lights,
     );
     let brush = shaded_brush(s.shading_mode, tri);
     stroke::paint(plane, depth_f32, tri, brush, &[]);
@@ -102,8 +101,7 @@ fn paint_textured(
     requires height_in_bounds { slot.start + area_of kind.Texture slot.width slot.height ≤ length textures.now }
     ensures { sheet plane.new depth_f32.new ≡ stroke_on (textured_stroke s mode has_normal corners (upload_at kind.Texture slot textures.now)) (sheet plane.old depth_f32.old) }
 {
-    let lights = s.lights;
-    let tri = lit::textured_lit(corners, has_normal, s.lighting_enabled, mode, lights);
+    let tri = lit::textured_lit(corners, has_normal, s.lighting_enabled, mode, &s.lights);
     let brush = textured_brush(slot, mode, tri);
     let start = slot.start as usize;
     let size = store::slots::area(Kind::Texture, slot.width, slot.height);

@@ -14,15 +14,15 @@ fn with_color(v: ClipVertex, color: [f32; 4]) -> ClipVertex
     ClipVertex { color, ..v }
 }
 
-fn shaded(v: ClipVertex, normal: [f32; 3], lights: [Light; 8]) -> [f32; 4]
-    ensures { result ≡ shaded_by lights v normal }
+fn shaded(v: ClipVertex, normal: [f32; 3], lights: &[Light; 8]) -> [f32; 4]
+    ensures { result ≡ shaded_by lights.now v normal }
 {
     shade_vertex(v.color, v.view_position, normal, lights)
 }
 
 // The vertex lit by the face's normal.
-fn face_lit(v: ClipVertex, normal: [f32; 3], lights: [Light; 8]) -> ClipVertex
-    ensures { result ≡ face_lit lights normal v }
+fn face_lit(v: ClipVertex, normal: [f32; 3], lights: &[Light; 8]) -> ClipVertex
+    ensures { result ≡ face_lit lights.now normal v }
 {
     with_color(v, shaded(v, normal, lights))
 }
@@ -47,8 +47,8 @@ fn one_color(tri: [ClipVertex; 3], color: [f32; 4]) -> [ClipVertex; 3]
 }
 
 // Each vertex by the normal that is given for it.
-fn lit_each(tri: [ClipVertex; 3], normals: [[f32; 3]; 3], lights: [Light; 8]) -> [ClipVertex; 3]
-    ensures { result ≡ lit_each lights normals tri }
+fn lit_each(tri: [ClipVertex; 3], normals: [[f32; 3]; 3], lights: &[Light; 8]) -> [ClipVertex; 3]
+    ensures { result ≡ lit_each lights.now normals tri }
 {
     let [v0, v1, v2] = tri;
     let (albedo0, albedo1, albedo2) = (v0.color, v1.color, v2.color);
@@ -66,8 +66,8 @@ fn lit_each(tri: [ClipVertex; 3], normals: [[f32; 3]; 3], lights: [Light; 8]) ->
     ]
 }
 
-fn own_lit_each(tri: [ClipVertex; 3], lights: [Light; 8]) -> [ClipVertex; 3]
-    ensures { result ≡ each_lit (own_lit lights) tri }
+fn own_lit_each(tri: [ClipVertex; 3], lights: &[Light; 8]) -> [ClipVertex; 3]
+    ensures { result ≡ each_lit (own_lit lights.now) tri }
 {
     let [v0, v1, v2] = tri;
     let (normal0, normal1, normal2) = (v0.normal, v1.normal, v2.normal);
@@ -81,9 +81,9 @@ pub fn transformed_lit(
     has_normal: bool,
     lighting_enabled: bool,
     shading_mode: u32,
-    lights: [Light; 8],
+    lights: &[Light; 8],
 ) -> [ClipVertex; 3]
-    ensures { result ≡ transformed_lit lighting_enabled shading_mode lights has_normal tri }
+    ensures { result ≡ transformed_lit lighting_enabled shading_mode lights.now has_normal tri }
 {
     if !has_normal || !lighting_enabled {
         return tri;
@@ -121,8 +121,8 @@ fn face_normal(tri: [ClipVertex; 3]) -> [f32; 3]
     cross(edge(v0, v1), edge(v0, v2))
 }
 
-fn face_lit_each(tri: [ClipVertex; 3], normal: [f32; 3], lights: [Light; 8]) -> [ClipVertex; 3]
-    ensures { result ≡ each_lit (face_lit lights normal) tri }
+fn face_lit_each(tri: [ClipVertex; 3], normal: [f32; 3], lights: &[Light; 8]) -> [ClipVertex; 3]
+    ensures { result ≡ each_lit (face_lit lights.now normal) tri }
 {
     lit_each(tri, [normal; 3], lights)
 }
@@ -134,9 +134,9 @@ pub fn textured_lit(
     has_normal: bool,
     lighting_enabled: bool,
     mode: u32,
-    lights: [Light; 8],
+    lights: &[Light; 8],
 ) -> [ClipVertex; 3]
-    ensures { result ≡ textured_lit lighting_enabled mode lights has_normal tri }
+    ensures { result ≡ textured_lit lighting_enabled mode lights.now has_normal tri }
 {
     if lighting_enabled {
         if mode == 1 {
