@@ -1,6 +1,6 @@
 // The table's text: what a line writes, its operations after a bar, its words after a semicolon.
-ghost use Rattle.std.specs.Prelude.{◌≡◌, ◌==◌, take, drop, position};
-ghost use Rattle.trial.specs.Table.{end_of};
+ghost use Rattle.std.specs.Prelude.{◌≡◌, ◌-◌, ◌<◌, ◌==◌, take, drop, position, IfOk, IfSome, vec_len};
+ghost use Rattle.trial.specs.Table.{end_of, is_line};
 
 use std::alloc::{AllocError, Global};
 
@@ -70,7 +70,9 @@ impl Token {
 
 // The tokens of a text, and how many there are. Each comes after a space or a brace, so what is
 // before the first goes to the last place, which means nothing.
-fn tokens_of(text: &[u8]) -> ([Token; MOST], usize) {
+fn tokens_of(text: &[u8]) -> ([Token; MOST], usize)
+    ensures { result.1 < 64 }
+{
     let (line, _) = until(text, b'\n');
     let mut tokens = [Token::NONE; MOST];
     let mut count = 0;
@@ -117,13 +119,17 @@ pub struct Line<'a> {
 }
 
 // Is it a line? A comment is none, nor is an empty line.
-pub fn is_line(text: &[u8]) -> bool {
+pub fn is_line(text: &[u8]) -> bool
+    ensures { result ≡ is_line text.now }
+{
     !text.starts_with(b"\n") && !text.starts_with(b"#")
 }
 
 impl<'a> Line<'a> {
     // A space is before the bar, unless nothing is.
-    pub fn of(text: &'a [u8]) -> Line<'a> {
+    pub fn of(text: &'a [u8]) -> Line<'a>
+        ensures { result.written.now ≡ take (end_of 124 text.now - 1) text.now }
+    {
         let (written, asked) = until(text, b'|');
         let (operations, words) = until(asked, b';');
         Line {
@@ -142,7 +148,9 @@ impl<'a> Line<'a> {
     }
 
     // The words that are to be fed, if the line gives any.
-    pub fn words(self, alloc: Global) -> Result<Option<Vec<u32>>, AllocError> {
+    pub fn words(self, alloc: Global) -> Result<Option<Vec<u32>>, AllocError>
+        ensures { IfOk result (λ words. IfSome words (λ v. vec_len v < 64)) }
+    {
         if self.words.is_empty() {
             return Ok(None);
         }

@@ -1,12 +1,28 @@
 // The memories that calls are lent, marks in them that no command leaves, and whether each still has
 // its marks everywhere.
-ghost use Rattle.std.specs.Prelude.{◌≡◌, ◌+◌, ◌==◌, ◌∷◌, [], replicate, IfOk, vec_len, from_bits, to_bits};
+ghost use Rattle.std.specs.Prelude.{◌≡◌, ◌+◌, ◌==◌, ◌&&◌, true, get_or, replicate, negsuc, IfOk, vec_len, from_bits, to_bits};
 ghost use Rattle.std.specs.List.{list_all};
 ghost use Rattle.std.specs.Float.{binary32};
+ghost use Rattle.trial.specs.Memories.{all_nats, all_ints, all_floats};
 
 use ieee::bits::{bits_of, float_of};
 use screen::plane::{PIXELS, PLANE_BYTES};
+use state::MAX_COMMAND_WORDS;
 use std::alloc::{AllocError, Global};
+
+const TEXTURE_WORDS: usize = 1024;
+
+const MODEL_WORDS: usize = 524291;
+
+// How much of each a call is lent, if its line says nothing else.
+pub const LENT: [usize; 6] = [
+    PLANE_BYTES,
+    PIXELS,
+    PIXELS,
+    MAX_COMMAND_WORDS as usize,
+    TEXTURE_WORDS,
+    MODEL_WORDS,
+];
 
 // What plane and depths have everywhere. The float is given by its bits.
 #[derive(Clone, Copy, Debug, PartialEq, Eq)]
@@ -30,7 +46,9 @@ impl Fill {
         float: 0x3f80_0000,
     };
 
-    pub fn fills(self, plane: &[u8], depth: &[i32], depth_f32: &[f32]) -> bool {
+    pub fn fills(self, plane: &[u8], depth: &[i32], depth_f32: &[f32]) -> bool
+        ensures { result ≡ all_nats self.byte plane.now && all_ints self.int depth.now && all_floats self.float depth_f32.now }
+    {
         all(plane, self.byte) && all(depth, self.int) && all_bits(depth_f32, self.float)
     }
 }
@@ -45,7 +63,7 @@ fn all<T: Copy + Drop + PartialEq>(s: &[T], v: T) -> bool
 }
 
 fn all_bits(s: &[f32], bits: u32) -> bool
-    ensures { result ≡ list_all (λ x. to_bits binary32 x == bits) s.now }
+    ensures { result ≡ all_floats bits s.now }
 {
     s.iter().all(|x| bits_of(*x) == bits)
 }
@@ -75,15 +93,15 @@ impl Memories {
             plane: vec![in alloc; 0; PLANE_BYTES + 1]?,
             depth: vec![in alloc; 0; PIXELS + 1]?,
             depth_f32: vec![in alloc; 0.0; PIXELS + 1]?,
-            command: vec![in alloc; 0; 524291]?,
-            textures: vec![in alloc; 0; 1024]?,
-            models: vec![in alloc; 0; 524291]?,
+            command: vec![in alloc; 0; MAX_COMMAND_WORDS as usize]?,
+            textures: vec![in alloc; 0; TEXTURE_WORDS]?,
+            models: vec![in alloc; 0; MODEL_WORDS]?,
         })
     }
 
     pub fn mark(&mut self)
         ensures plane { self.new.plane.items ≡ replicate (vec_len self.old.plane) 90 }
-        ensures depth { vec_len self.new.depth ≡ vec_len self.old.depth }
+        ensures depth { self.new.depth.items ≡ replicate (vec_len self.old.depth) (negsuc 4) }
         ensures depth_f32 { self.new.depth_f32.items ≡ replicate (vec_len self.old.depth_f32) (from_bits binary32 1048576000) }
         ensures command { self.new.command.items ≡ replicate (vec_len self.old.command) 1515870810 }
         ensures textures { self.new.textures.items ≡ replicate (vec_len self.old.textures) 1515870810 }
@@ -98,7 +116,14 @@ impl Memories {
     }
 
     // Does each memory have its marks?
-    pub fn marked(&self) -> [bool; 6] {
+    pub fn marked(&self) -> [bool; 6]
+        ensures plane { get_or result 0 true ≡ all_nats 90 self.now.plane.items }
+        ensures depth { get_or result 1 true ≡ all_ints (negsuc 4) self.now.depth.items }
+        ensures depth_f32 { get_or result 2 true ≡ all_floats 1048576000 self.now.depth_f32.items }
+        ensures command { get_or result 3 true ≡ all_nats 1515870810 self.now.command.items }
+        ensures textures { get_or result 4 true ≡ all_nats 1515870810 self.now.textures.items }
+        ensures models { get_or result 5 true ≡ all_nats 1515870810 self.now.models.items }
+    {
         [
             all(&self.plane, Fill::MARKS.byte),
             all(&self.depth, Fill::MARKS.int),

@@ -1,5 +1,6 @@
 // What a line's operations ask for: the call, what it is lent, and the state that it is given.
 use crate::line::Op;
+use crate::memories::LENT;
 use ieee::bits::float_of;
 use light::Light;
 use state::State;
@@ -50,7 +51,7 @@ impl Plan {
     const USUAL: Plan = Plan {
         reset: false,
         marked: true,
-        lengths: [307200, 76800, 76800, 524291, 1024, 524291],
+        lengths: LENT,
         state: State::FRESH,
     };
 
