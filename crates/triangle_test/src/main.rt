@@ -35,15 +35,14 @@ fn lines<F: Fn(&mut Picture, &[u8])>(
     draw: F,
 ) -> io::Result<()>
     requires nonempty { 0 < size }
-    requires small { size < 1000 }
     requires callable { F.IsAlwaysCallable draw }
 {
-    for line in section.chunks_exact(size * LINE) {
-        for record in line.chunks_exact(size) {
-            draw(picture, record);
+    for (i, record) in section.chunks_exact(size).enumerate() {
+        draw(picture, record);
+        if i % LINE == LINE - 1 {
+            println!(rt; "{name}{picture}")?;
+            picture.clear();
         }
-        println!(rt; "{name}{picture}")?;
-        picture.clear();
     }
     Ok(())
 }
