@@ -13,13 +13,13 @@ use crate::tri::Tri;
 use screen::plane::VPU_WIDTH;
 
 // A pixel that the triangle covers, with its edges there: it is drawn if it is nearer.
-fn cover(plane: &mut [u8], depth: &mut [i32], s: &Solid, x: usize, y: usize, w: Weights)
+fn cover(plane: &mut [u8], depth: &mut [i32], s: Solid, x: usize, y: usize, w: Weights)
     requires plane_len { length plane.old ≡ plane_bytes }
     requires depth_len { length depth.old ≡ pixels }
     requires x_lt_width { (x < width) × (y < height) }
-    requires y_value { covers s.now.tri x y ≡ true }
-    requires w_value { w ≡ weights_of s.now.tri x y }
-    ensures { TriDrawn s.now.tri (y * width + x) (y * width + x + 1) depth.old plane.old depth.new plane.new }
+    requires y_value { covers s.tri x y ≡ true }
+    requires w_value { w ≡ weights_of s.tri x y }
+    ensures { TriDrawn s.tri (y * width + x) (y * width + x + 1) depth.old plane.old depth.new plane.new }
 {
     let d = crate::edge::weighted(s.area, w, s.tri);
     let index = y * VPU_WIDTH + x;
@@ -31,12 +31,12 @@ fn cover(plane: &mut [u8], depth: &mut [i32], s: &Solid, x: usize, y: usize, w: 
 }
 
 // One pixel: the first edge that it is beyond settles it.
-fn draw_pixel(plane: &mut [u8], depth: &mut [i32], s: &Solid, edges: Edges, x: usize, y: usize)
+fn draw_pixel(plane: &mut [u8], depth: &mut [i32], s: Solid, edges: Edges, x: usize, y: usize)
     requires plane_len { length plane.old ≡ plane_bytes }
     requires depth_len { length depth.old ≡ pixels }
     requires x_lt_width { (x < width) × (y < height) }
-    requires edges_value { edges ≡ edges_of s.now.tri y }
-    ensures { TriDrawn s.now.tri (y * width + x) (y * width + x + 1) depth.old plane.old depth.new plane.new }
+    requires edges_value { edges ≡ edges_of s.tri y }
+    ensures { TriDrawn s.tri (y * width + x) (y * width + x + 1) depth.old plane.old depth.new plane.new }
 {
     let w0 = crate::edge::at_column(edges.w0, x);
     if w0 >= 0 {
@@ -50,11 +50,11 @@ fn draw_pixel(plane: &mut [u8], depth: &mut [i32], s: &Solid, edges: Edges, x: u
     }
 }
 
-fn draw_row(plane: &mut [u8], depth: &mut [i32], s: &Solid, y: usize)
+fn draw_row(plane: &mut [u8], depth: &mut [i32], s: Solid, y: usize)
     requires plane_len { length plane.old ≡ plane_bytes }
     requires depth_len { length depth.old ≡ pixels }
     requires y_lt_height { y < height }
-    ensures { TriDrawn s.now.tri (y * width) (y * width + width) depth.old plane.old depth.new plane.new }
+    ensures { TriDrawn s.tri (y * width) (y * width + width) depth.old plane.old depth.new plane.new }
 {
     let edges = crate::edge::edges_of(s.tri, y);
     for x in s.bounds.left..s.bounds.right {
@@ -62,10 +62,10 @@ fn draw_row(plane: &mut [u8], depth: &mut [i32], s: &Solid, y: usize)
     }
 }
 
-fn draw_rows(plane: &mut [u8], depth: &mut [i32], s: &Solid)
+fn draw_rows(plane: &mut [u8], depth: &mut [i32], s: Solid)
     requires plane_len { length plane.old ≡ plane_bytes }
     requires depth_len { length depth.old ≡ pixels }
-    ensures { TriDrawn s.now.tri 0 pixels depth.old plane.old depth.new plane.new }
+    ensures { TriDrawn s.tri 0 pixels depth.old plane.old depth.new plane.new }
 {
     for y in s.bounds.top..s.bounds.bottom {
         draw_row(plane, depth, s, y);
@@ -95,12 +95,12 @@ pub fn draw_tri(plane: &mut [u8], depth: &mut [i32], t: Tri)
 {
     let area = crate::edge::area_of(t);
     if area > 0 {
-        draw_rows(plane, depth, &Solid::new(t, area));
+        draw_rows(plane, depth, Solid::new(t, area));
         return;
     }
     if area < 0 {
         let back = turned(t);
         let area = crate::edge::area_of(back);
-        draw_rows(plane, depth, &Solid::new(back, area));
+        draw_rows(plane, depth, Solid::new(back, area));
     }
 }

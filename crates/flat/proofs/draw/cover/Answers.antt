@@ -30,7 +30,7 @@ unfolding depth_at
 is-depth s x y w d e h = rw (e, area_read s) at h
 
 pub weighted-d-requires : goal.weighted-d-requires
-weighted-d-requires c = let s = c.args.s.now in
+weighted-d-requires c = let s = c.args.s in
     rw (c.requires.w_value, area_read s) (weighed s.placed c.args.x c.args.y c.requires.x_lt_width.0 c.requires.x_lt_width.1 c.requires.y_value)
 
 pub returns-then-d-old : goal.returns-then-d-old
@@ -41,7 +41,7 @@ returns-then-d-old c = let k = c.args.y * width + c.args.x in
     let fo : SFits w32 (get_or D k (pos 0)) = search rules in
     let n : lt_z d (get_or D k (pos 0)) ≡ true = simp to_z-of_z at c.if-d-old.true in
     simp to_z-of_z
-    (drawn-new c.args.s.now.tri c.args.x c.args.y k D c.args.plane.now c.requires.x_lt_width.0 refl c.requires.y_value d _ (is-depth c.args.s.now c.args.x c.args.y c.args.w d c.requires.w_value c.weighted-d.ensures) n (omega (arith, c.requires.depth_len, c.requires.x_lt_width.0, c.requires.x_lt_width.1)) c.write_pixel.ensures)
+    (drawn-new c.args.s.tri c.args.x c.args.y k D c.args.plane.now c.requires.x_lt_width.0 refl c.requires.y_value d _ (is-depth c.args.s c.args.x c.args.y c.args.w d c.requires.w_value c.weighted-d.ensures) n (omega (arith, c.requires.depth_len, c.requires.x_lt_width.0, c.requires.x_lt_width.1)) c.write_pixel.ensures)
 
 pub returns-else-d-old : goal.returns-else-d-old
 returns-else-d-old c = let k = c.args.y * width + c.args.x in
@@ -50,4 +50,4 @@ returns-else-d-old c = let k = c.args.y * width + c.args.x in
     let fd : SFits w32 d = sfits_of c.weighted-d.type_inv in
     let fo : SFits w32 (get_or D k (pos 0)) = search rules in
     let n : lt_z d (get_or D k (pos 0)) ≡ false = simp to_z-of_z at c.if-d-old.false in
-    drawn-behind c.args.s.now.tri c.args.x c.args.y k D c.args.plane.now c.requires.x_lt_width.0 refl c.requires.y_value (rw (← is-depth c.args.s.now c.args.x c.args.y c.args.w d c.requires.w_value c.weighted-d.ensures) n)
+    drawn-behind c.args.s.tri c.args.x c.args.y k D c.args.plane.now c.requires.x_lt_width.0 refl c.requires.y_value (rw (← is-depth c.args.s c.args.x c.args.y c.args.w d c.requires.w_value c.weighted-d.ensures) n)

@@ -27,17 +27,17 @@ module _ {t : Tri} (p : Placed t) {e : Edges} {x y : ℕ} (hx : x < width) (hy :
   read2 h = read_as (B.fits tt (within2 p y hy x hx)) (h ∙ ap (λ (l : Edges). on_line l.w2 (pos x)) is ∙ at2 t x y)
 
 pub at_column-w0-requires-clause-in_row : goal.at_column-w0-requires-clause-in_row
-at_column-w0-requires-clause-in_row c = rw c.requires.edges_value (row0 c.args.s.now.placed c.args.y c.requires.x_lt_width.1)
+at_column-w0-requires-clause-in_row c = rw c.requires.edges_value (row0 c.args.s.placed c.args.y c.requires.x_lt_width.1)
 
 pub at_column-w1-requires-clause-in_row : goal.at_column-w1-requires-clause-in_row
-at_column-w1-requires-clause-in_row c = rw c.requires.edges_value (row1 c.args.s.now.placed c.args.y c.requires.x_lt_width.1)
+at_column-w1-requires-clause-in_row c = rw c.requires.edges_value (row1 c.args.s.placed c.args.y c.requires.x_lt_width.1)
 
 pub at_column-w2-requires-clause-in_row : goal.at_column-w2-requires-clause-in_row
-at_column-w2-requires-clause-in_row c = rw c.requires.edges_value (row2 c.args.s.now.placed c.args.y c.requires.x_lt_width.1)
+at_column-w2-requires-clause-in_row c = rw c.requires.edges_value (row2 c.args.s.placed c.args.y c.requires.x_lt_width.1)
 
 pub cover-requires-clause-y_value : goal.cover-requires-clause-y_value
 unfolding covers
-cover-requires-clause-y_value c = let s = c.args.s.now in
+cover-requires-clause-y_value c = let s = c.args.s in
     let r = c.requires in
     let e0 = read0 s.placed r.x_lt_width.0 r.x_lt_width.1 r.edges_value c.at_column-w0.ensures in
     let e1 = read1 s.placed r.x_lt_width.0 r.x_lt_width.1 r.edges_value c.at_column-w1.ensures in
@@ -45,7 +45,7 @@ cover-requires-clause-y_value c = let s = c.args.s.now in
     inside_yes (area_of s.tri) _ _ _ s.upward (rw e0 at c.if-w0-ge0.true) (rw e1 at c.if-w1-ge0.true) (rw e2 at c.if-w2-ge0.true)
 
 pub cover-requires-clause-w_value : goal.cover-requires-clause-w_value
-cover-requires-clause-w_value c = let s = c.args.s.now in
+cover-requires-clause-w_value c = let s = c.args.s in
     let r = c.requires in
     rw (
       read0 s.placed r.x_lt_width.0 r.x_lt_width.1 r.edges_value c.at_column-w0.ensures,
@@ -55,7 +55,7 @@ cover-requires-clause-w_value c = let s = c.args.s.now in
 
 pub returns-else-w2-ge0 : goal.returns-else-w2-ge0
 unfolding covers
-returns-else-w2-ge0 c = let s = c.args.s.now in
+returns-else-w2-ge0 c = let s = c.args.s in
     let r = c.requires in
     let e0 = read0 s.placed r.x_lt_width.0 r.x_lt_width.1 r.edges_value c.at_column-w0.ensures in
     let e1 = read1 s.placed r.x_lt_width.0 r.x_lt_width.1 r.edges_value c.at_column-w1.ensures in
@@ -65,7 +65,7 @@ returns-else-w2-ge0 c = let s = c.args.s.now in
 
 pub returns-else-w1-ge0 : goal.returns-else-w1-ge0
 unfolding covers
-returns-else-w1-ge0 c = let s = c.args.s.now in
+returns-else-w1-ge0 c = let s = c.args.s in
     let r = c.requires in
     let e0 = read0 s.placed r.x_lt_width.0 r.x_lt_width.1 r.edges_value c.at_column-w0.ensures in
     let e1 = read1 s.placed r.x_lt_width.0 r.x_lt_width.1 r.edges_value c.at_column-w1.ensures in
@@ -74,7 +74,7 @@ returns-else-w1-ge0 c = let s = c.args.s.now in
 
 pub returns-else-w0-ge0 : goal.returns-else-w0-ge0
 unfolding covers
-returns-else-w0-ge0 c = let s = c.args.s.now in
+returns-else-w0-ge0 c = let s = c.args.s in
     let r = c.requires in
     let e0 = read0 s.placed r.x_lt_width.0 r.x_lt_width.1 r.edges_value c.at_column-w0.ensures in
     drawn_miss s.tri c.args.x c.args.y _ _ _ r.x_lt_width.0 refl

@@ -8,11 +8,11 @@ use Rattle.flat.proofs.Cell.{drawn_row_clear}
 use Rattle.flat.proofs.draw.draw_row.Goals as goal
 
 pub loop-x-init : goal.loop-x-init
-loop-x-init c = let box = c.args.s.now.boxed in
-    (box.on_left, drawn_row_clear c.args.s.now.tri c.args.y 0 c.args.s.now.bounds.left _ _ _ _ box.on_left (λ x p q. box.before_left x c.args.y q) (omega arith) refl)
+loop-x-init c = let box = c.args.s.boxed in
+    (box.on_left, drawn_row_clear c.args.s.tri c.args.y 0 c.args.s.bounds.left _ _ _ _ box.on_left (λ x p q. box.before_left x c.args.y q) (omega arith) refl)
 
 pub loop-x-preserved : goal.loop-x-preserved
-loop-x-preserved c = let in_row : c.loop-x.x < width = omega (arith, c.loop-x-test.true, c.args.s.now.boxed.on_right) in (
+loop-x-preserved c = let in_row : c.loop-x.x < width = omega (arith, c.loop-x-test.true, c.args.s.boxed.on_right) in (
   omega arith,
   drawn_next c.loop-x.invariant.1 c.draw_pixel.ensures refl (omega arith) (omega arith) (omega arith) (omega (arith, c.requires.depth_len, c.requires.y_lt_height)),
 )
@@ -20,6 +20,6 @@ loop-x-preserved c = let in_row : c.loop-x.x < width = omega (arith, c.loop-x-te
 pub returns : goal.returns
 returns c = let x = c.loop-x.x in
     drawn_next c.loop-x.invariant.1
-    (drawn_row_clear c.args.s.now.tri c.args.y x width (c.args.y * width + x) (c.args.y * width + width) _ _ (omega arith) (λ i p q. c.args.s.now.boxed.from_right i c.args.y (omega (arith, c.loop-x-test.false)) q) refl refl)
+    (drawn_row_clear c.args.s.tri c.args.y x width (c.args.y * width + x) (c.args.y * width + width) _ _ (omega arith) (λ i p q. c.args.s.boxed.from_right i c.args.y (omega (arith, c.loop-x-test.false)) q) refl refl)
     refl refl (omega arith) (omega arith)
     (omega (arith, c.requires.depth_len, c.requires.y_lt_height))
