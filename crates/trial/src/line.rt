@@ -159,3 +159,28 @@ impl<'a> Line<'a> {
         Ok(Some(numbers.collect(alloc)?))
     }
 }
+
+#[cfg(test)]
+mod tests {
+    use super::*;
+    use std::test::Fail;
+
+    #[test]
+    fn a_line_is_read(rt: HostRuntime) -> Result<(), Fail> {
+        let line = Line::of(b"a {S} | n1 5 r ; 5 x1f\n");
+        assert_eq!(rt; line.written, b"a {S}".as_slice());
+        let ops = line.ops(rt.alloc())?;
+        let n = Op {
+            letter: b'n',
+            numbers: [1, 5, 0, 0, 0, 0],
+        };
+        let r = Op {
+            letter: b'r',
+            numbers: [0; 6],
+        };
+        assert_eq!(rt; ops.as_slice(), [n, r].as_slice());
+        let words = line.words(rt.alloc())?.ok_or("no words")?;
+        assert_eq!(rt; words.as_slice(), [5, 31].as_slice());
+        Ok(())
+    }
+}

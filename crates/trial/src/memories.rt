@@ -134,3 +134,18 @@ impl Memories {
         ]
     }
 }
+
+#[cfg(test)]
+mod tests {
+    use super::*;
+    use std::test::Fail;
+
+    #[test]
+    fn marks_are_seen(rt: HostRuntime) -> Result<(), Fail> {
+        let mut memories = Memories::new(rt.alloc())?;
+        assert_eq!(rt; memories.marked(), [false; 6]);
+        memories.mark();
+        assert_eq!(rt; memories.marked(), [true; 6]);
+        Ok(())
+    }
+}
