@@ -82,3 +82,26 @@ impl Machine {
         fed.answer
     }
 }
+
+#[cfg(test)]
+mod tests {
+    use super::*;
+
+    // White, which no dithering changes, with an alpha of 128 (docs/COMMANDS.md, "04 Clear").
+    #[test]
+    fn clears(rt: HostRuntime) -> Result<(), AllocError> {
+        let mut machine = Machine::new(rt.alloc(), 4)?;
+        assert!(rt; matches!(machine.reset(), Answer::Done));
+        assert_eq!(rt; machine.plane.first().copied(), Some(0));
+        assert!(rt;
+            matches!(
+                machine.feed(&[0x0400_0003, 1, 0xffff_ff80, 0]),
+                Answer::Done
+            )
+        );
+        assert_eq!(rt; machine.state.notes.status, 0);
+        assert_eq!(rt; machine.plane.first().copied(), Some(255));
+        assert_eq!(rt; machine.plane.last().copied(), Some(128));
+        Ok(())
+    }
+}
