@@ -1,4 +1,3 @@
-mod Laid
 mod Walks
 mod Split
 mod Marks

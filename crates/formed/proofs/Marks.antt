@@ -9,7 +9,7 @@ use lib.ListN.{length, drop, get_or, set}
 use lib.Seq.{get_or-set_same, get_or-set_other}
 use lib.Dec.{eqb}
 use borrow.Author.Tests.{eq-eqb}
-use Rattle.store.proofs.Walk.{slots-from, fresh_end, fresh_next}
+use Rattle.store.proofs.Walk.{slots-from, fresh_next}
 use Rattle.store.specs.Slots.{no_slot, fresh}
 use Rattle.formed.specs.Tests.{differ, number_of, hits}
 use Rattle.store.specs.declared.Slot.{Slot}
@@ -47,14 +47,8 @@ module _ (ss : List Slot) (i j : ℕ) (next : i + 1 ≡ j) (here : i < length ss
   from : drop i ss ≡ s ∷ drop j ss
   from = slots-from ss i here ∙ ap (λ (n : ℕ). s ∷ drop n ss) next
 
-  pub differ_unheld : s.held ≡ false → true ≡ differ (drop i ss)
-  differ_unheld a = rw (from, a)
-
   pub differ_held : s.held ≡ true → differ (drop i ss) ≡ (differ (drop j ss) && fresh s.number (drop j ss))
   differ_held a = rw (from, a) (and_comm (fresh s.number (drop j ss)) (differ (drop j ss)))
-
-  pub marked_unheld : (marks : List Bool) → s.held ≡ false → Marked marks (drop i ss)
-  marked_unheld marks a n h = fresh_end ss i here n a
 
   pub marked-held : (marks : List Bool) → length marks ≡ 509 → s.held ≡ true → Marked marks (drop j ss) → Marked (set marks (s.number % 509) true) (drop i ss)
   marked-held marks long a m n h = go (ℕ_discrete (n % 509) (s.number % 509))
