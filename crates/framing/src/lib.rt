@@ -67,7 +67,7 @@ impl Frame {
     }
 
     // Opcode in the top 8 bits, count in the low 24.
-    #[tactic(auto, using(crate::proofs::Words::header_many))]
+    #[tactic(auto, unfolding(crate::specs::Frames::header_frame))]
     fn header(self, word: u32) -> Frame
         ensures { result ≡ header_frame self word }
     {
@@ -87,6 +87,7 @@ impl Frame {
     }
 
     // A word: a header, or one of the payload's, which goes to the command area.
+    #[tactic(auto, unfolding(crate::specs::Frames::word_frame, crate::specs::Frames::word_area))]
     pub fn take_word(self, word: u32, command: &mut [u32]) -> Frame
         requires wanted_in_bounds { self.gathered + self.wanted ≤ length command.old }
         requires command_len { length command.old ≡ most_payload }

@@ -4,7 +4,7 @@
 ghost use Rattle.std.specs.Prelude.{◌≡◌, ◌<◌};
 ghost use Rattle.light.specs.Light.{disabled, view_of, to_light_of, shine_of, term_of, added_of, shade_of, shade_each};
 
-use vector::three::{dot, normalize};
+use vector::three::{dot, minus, normalize, plus};
 
 #[derive(Clone, Copy, Debug, PartialEq)]
 pub struct Light {
@@ -36,23 +36,16 @@ impl Light {
 fn to_light(light: [f32; 3], position: [f32; 3]) -> [f32; 3]
     ensures { result ≡ to_light_of light position }
 {
-    normalize([
-        light[0] - position[0],
-        light[1] - position[1],
-        light[2] - position[2],
-    ])
+    normalize(minus(light, position))
 }
 
 // The specular factor, for a surface that faces the light by ndotl.
+#[tactic(auto, unfolding(crate::specs::Light::shine_of))]
 fn shine(normal: [f32; 3], to_light: [f32; 3], view: [f32; 3], ndotl: f32) -> f32
     ensures { result ≡ shine_of normal to_light view ndotl }
 {
     if ndotl > 0.0 {
-        let half_vector = normalize([
-            to_light[0] + view[0],
-            to_light[1] + view[1],
-            to_light[2] + view[2],
-        ]);
+        let half_vector = normalize(plus(to_light, view));
         vector::three::powi16(ieee::range::max0(dot(normal, half_vector)))
     } else {
         0.0
@@ -71,6 +64,7 @@ fn term(albedo: [f32; 4], light: Light, channel: usize, ndotl: f32, shine: f32) 
         + light.emission[channel]
 }
 
+#[tactic(auto, unfolding(crate::specs::Light::added_toward))]
 fn add_light(
     rgb: [f32; 3],
     albedo: [f32; 4],
@@ -93,6 +87,7 @@ fn add_light(
 
 // The direction from a corner to the eye. It takes the root by itself, and not by `normalize`: with
 // two callers the compiler leaves the root a function, and `normalize` is small enough to inline.
+#[tactic(auto, unfolding(vector::specs::Three::normal_of))]
 fn to_eye(position: [f32; 3]) -> [f32; 3]
     ensures { result ≡ view_of position }
 {

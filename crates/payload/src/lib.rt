@@ -49,6 +49,7 @@ pub fn finite_from(p: &[u32], start: usize, n: usize) -> Verdict
 }
 
 // RGBA, red in the top byte, as floats from 0.0 to 1.0.
+#[tactic(auto, unfolding(crate::specs::Words::color_of))]
 pub fn color_of(word: u32) -> [f32; 4]
     ensures { result ≡ color_of word }
 {

@@ -173,6 +173,7 @@ pub fn noted(notes: Notes, opcode: u32, verdict: Verdict) -> Notes
 }
 
 // Is this a refusal that a state may have?
+#[tactic(auto, unfolding(crate::specs::Verdict::refusal_ok))]
 pub fn refusal_ok(first: Refusal) -> bool
     ensures { result ≡ refusal_ok first }
 {
