@@ -1,9 +1,9 @@
 -- The draws' definitions, by what their checks come to: for the proofs of the functions. Assumes nothing.
 use Prim.Native.Nat.{ℕ, ◌/◌, ◌<◌}
-use mathlib.Core.Path.{◌≡◌, refl, sym, ◌∙◌}
+use mathlib.Core.Path.{◌≡◌, refl, sym, ap, ◌∙◌}
 use mathlib.Core.Bool.{Bool, true, false, cond, ◌&&◌}
-use mathlib.Core.Option.{Option}
-use mathlib.Core.List.{List, [], ◌++◌}
+use mathlib.Core.Option.{Option, none, some}
+use mathlib.Core.List.{List, [], ◌∷◌, ◌++◌}
 use lib.Dec.{eqb, leb, ltb}
 use borrow.Author.Tests.{leb-true, ltb-true}
 use native.Mathlib.Omega.{arith}
@@ -24,13 +24,16 @@ use Rattle.store.specs.declared.Kind.TheVariants.{Texture, Model}
 use Rattle.laws.proofs.Bools.{and_left, and_right}
 use Rattle.verdict.specs.declared.Refused.{Refused}
 use Rattle.verdict.specs.Verdict.{Verdict, done, passed}
-use Rattle.payload.specs.Words.{and_then, word_at, at_most}
-use Rattle.verdict.proofs.Checks.{and_assoc, and_done}
+use Rattle.payload.specs.Words.{and_then, when_done, word_at, at_most}
+use Rattle.verdict.proofs.Checks.{first_done, next_done, and_assoc, and_done}
+use Rattle.decide.specs.Corners.{corners_of}
 use Rattle.decide.specs.Verdicts.{held_of, checked_verdict, textured_verdict, triangle_of, records_verdict}
 use Rattle.lit.specs.Lit.{textured_lit}
-use Rattle.draw.specs.Draws.{flat_color, shaded_brush, textured_brush, textured_stroke, held_strokes, textured_strokes, records_strokes, model_strokes, has_in}
-use Rattle.judge.specs.Judge.{is_at, held_in, named_verdict, slot_by}
-use Rattle.judge.proofs.Laws.{look-held, named_refused, mode_done, found_by, front_word, front_triangle, behind, one_more, records_next, records_none}
+use Rattle.draw.specs.Draws.{flat_color, shaded_brush, textured_corners, textured_brush, textured_stroke, held_strokes, textured_strokes, records_strokes, model_strokes, has_in}
+use Rattle.judge.specs.Judge.{is_at, held_in, named_verdict, slot_by, judged_by}
+use Rattle.judge.specs.declared.Judged.{Judged}
+use Rattle.store.proofs.Places.{look_some}
+use Rattle.judge.proofs.Laws.{look-held, verdict_of, answer_of, named_refused, mode_done, found_by, front_word, front_triangle, behind, one_more, records_next, records_none}
 
 -- ---- corners lit and painted with the texture of a slot
 pub textured_painted_lem : (s : Settings) (mode : ℕ) (normal : Bool) (corners tri : List ClipVertex) (u : Whole) (brush : Brush) (texels : List ℕ) (a b : Sheet)
@@ -39,26 +42,62 @@ pub textured_painted_lem : (s : Settings) (mode : ℕ) (normal : Bool) (corners 
 unfolding textured_stroke
 textured_painted_lem s mode normal corners tri u brush texels a b t k w e = rw (← t, ← k, ← w) e
 
--- ---- 18 and 19, by what the mode and the number came to
-module _ (s : Settings) (p : List ℕ) (normal : Bool) (slots : List Slot) (store : List ℕ) {named : Result Slot Refused} (e : named ≡ passed (named_verdict p slots) (slot_by p slots)) where
-  go_bare : (f : std.Option Slot) {x : Refused} → and_then (at_most p 1 2) (held_of (is_at f)) ≡ Err x → textured_strokes s p normal (looked Texture store f) ≡ []
-  unfolding textured_strokes
-  go_bare (Some slot) k = rw (rw (and_done (at_most p 1 2)) at k)
-  go_bare None k = refl
+-- ---- 18 and 19, by what judging them came to
+none-painted : {A : Type 0} (v w : Verdict) {x : Refused} (a b : A) → and_then v w ≡ Err x → when_done v (when_done w a b) b ≡ b
+none-painted (Ok u) w a b h = rw h
+none-painted (Err e) w a b h = refl
 
-  -- refused by them: so is the draw, and nothing is painted
-  pub texture_refused : {x : Refused} → named ≡ Err x → (textured_verdict p normal (is_some (look_in Texture slots store (word_at p 0))) s.matrices ≡ Err x)
-      × (textured_strokes s p normal (look_in Texture slots store (word_at p 0)) ≡ [])
-  unfolding textured_verdict named_verdict
-  texture_refused h =
-      let v = named_refused p slots e h in
-      (rw (look-held Texture slots store (word_at p 0), ← and_assoc (at_most p 1 2) (held_of (held_in slots (word_at p 0))) (checked_verdict p normal s.matrices), v), go_bare (slot_for (word_at p 0) slots) v)
+module _ (s : Settings) (p : List ℕ) (normal : Bool) where
+  bare : (found : Option Whole) {x : Refused} → textured_verdict p normal (is_some found) s.matrices ≡ Err x → textured_strokes s p normal found ≡ []
+  unfolding textured_verdict textured_strokes held_strokes
+  bare none h = refl
+  bare (some u) h = none-painted (at_most p 1 2) (checked_verdict p normal s.matrices) _ [] h
 
-  -- with a slot: what is left to check, and what is painted then
-  pub texture_named : {slot : Slot} → named ≡ Ok slot → (textured_verdict p normal (is_some (look_in Texture slots store (word_at p 0))) s.matrices ≡ checked_verdict p normal s.matrices)
-      × (textured_strokes s p normal (look_in Texture slots store (word_at p 0)) ≡ held_strokes s p normal slot.width slot.height (upload_at Texture slot store).words)
-  unfolding textured_verdict textured_strokes
-  texture_named h = (rw (found_by p slots e h, mode_done p slots e h), rw (found_by p slots e h, mode_done p slots e h))
+  painted : (u : Whole) → textured_verdict p normal true s.matrices ≡ done
+      → textured_strokes s p normal (some u) ≡ textured_stroke s (word_at p 1) normal (corners_of p normal true s.matrices) u ∷ []
+  unfolding textured_verdict textured_strokes held_strokes textured_corners textured_stroke
+  painted u h = rw (first_done (at_most p 1 2) _ h, next_done (at_most p 1 2) _ h)
+
+  module _ (slots : List Slot) (store : List ℕ) {judged : Result Judged Refused} (e : judged ≡ judged_by p normal s.matrices slots) where
+    same : textured_verdict p normal (is_some (look_in Texture slots store (word_at p 0))) s.matrices ≡ textured_verdict p normal (held_in slots (word_at p 0)) s.matrices
+    same = rw (look-held Texture slots store (word_at p 0))
+
+    -- refused: nothing is painted
+    pub judged_refused : {x : Refused} → judged ≡ Err x → (textured_verdict p normal (is_some (look_in Texture slots store (word_at p 0))) s.matrices ≡ Err x)
+        × (textured_strokes s p normal (look_in Texture slots store (word_at p 0)) ≡ [])
+    unfolding judged_by
+    judged_refused h =
+        let v = same ∙ verdict_of (textured_verdict p normal (held_in slots (word_at p 0)) s.matrices) _ (sym e ∙ h) in
+        (v, bare (look_in Texture slots store (word_at p 0)) v)
+
+    -- accepted: the slot that is handed on is the one that is held, and its texture is painted
+    module _ {j : Judged} (h : judged ≡ Ok j) where
+      both : (textured_verdict p normal (held_in slots (word_at p 0)) s.matrices ≡ done) × (j ≡ record { slot = slot_by p slots; corners = corners_of p normal true s.matrices })
+      unfolding judged_by
+      both = answer_of (textured_verdict p normal (held_in slots (word_at p 0)) s.matrices) _ j (sym e ∙ h)
+
+      named : named_verdict p slots ≡ done
+      unfolding named_verdict textured_verdict
+      named =
+          let held = held_of (held_in slots (word_at p 0)) in
+          first_done (and_then (at_most p 1 2) held) (checked_verdict p normal s.matrices) (and_assoc (at_most p 1 2) held (checked_verdict p normal s.matrices) ∙ both.0)
+
+      slot_is : j.slot ≡ slot_by p slots
+      slot_is = ap (λ (i : Judged). i.slot) both.1
+
+      pub judged_found : slot_for (word_at p 0) slots ≡ Some j.slot
+      judged_found =
+          let handed : passed (named_verdict p slots) (slot_by p slots) ≡ Ok (slot_by p slots) = rw named in
+          rw slot_is (found_by p slots refl handed)
+
+      pub judged_done : textured_verdict p normal (is_some (look_in Texture slots store (word_at p 0))) s.matrices ≡ done
+      judged_done = same ∙ both.0
+
+      pub judged_painted : textured_strokes s p normal (look_in Texture slots store (word_at p 0)) ≡ textured_stroke s (word_at p 1) normal j.corners (upload_at Texture j.slot store) ∷ []
+      judged_painted =
+          let is = look_some Texture slots store (word_at p 0) j.slot judged_found in
+          let corners : j.corners ≡ corners_of p normal true s.matrices = ap (λ (i : Judged). i.corners) both.1 in
+          rw (is, corners) (painted (upload_at Texture j.slot store) (rw is at judged_done))
 
 -- ---- brushes and their textures
 pub shaded_stored : (shading n : ℕ) (tri : List ClipVertex) (brush : Brush) → brush ≡ shaded_brush shading tri → Stored brush n

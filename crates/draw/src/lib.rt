@@ -10,14 +10,14 @@ ghost use Rattle.store.specs.Uploads.{is_some};
 ghost use Rattle.store.specs.Slots.{area_of, sides_ok, slots_ok, upload_at, look_in};
 ghost use Rattle.store.specs.declared.Kind.TheVariants as kind;
 ghost use Rattle.decide.specs.Corners.{words_of, normal_matrix_of};
-ghost use Rattle.decide.specs.Verdicts.{transformed_verdict, checked_verdict, textured_verdict, records_verdict};
-ghost use Rattle.draw.specs.Draws.{flat_color, shaded_brush, transformed_strokes, textured_brush, textured_stroke, held_strokes, textured_strokes, records_strokes, model_strokes, has_in};
+ghost use Rattle.decide.specs.Verdicts.{transformed_verdict, textured_verdict, records_verdict};
+ghost use Rattle.draw.specs.Draws.{flat_color, shaded_brush, transformed_strokes, textured_brush, textured_stroke, textured_strokes, records_strokes, model_strokes, has_in};
 ghost use Rattle.judge.specs.Judge.{model_verdict};
 
 use clip::vertex::ClipVertex;
 use decide::corner::normal_matrix;
-use judge::mode_and_number;
 use judge::model::triangle_of;
+use judge::{Judged, mode_and_number};
 use raster::ink::Color;
 use settings::Settings;
 use store::{Kind, SLOTS, Slot};
@@ -108,29 +108,28 @@ fn paint_textured(
     stroke::paint(plane, depth_f32, tri, brush, &textures[start..start + size]);
 }
 
-// 18 and 19 with the texture's slot and the matrix for normals in hand: what is tested after the mode
-// and the number, and what is painted then.
-#[tactic(auto, unfolding(crate::specs::Draws::held_strokes, crate::specs::Draws::textured_corners, crate::specs::Draws::textured_stroke, stroke::specs::Strokes::strokes_on))]
-fn draw_held(
+// 18 and 19, and a triangle of a model as a 19. The matrix for normals is asked for if the mode and
+// the number passed.
+fn draw_judged<F: FnOnce() -> Option<Matrix3>>(
     plane: &mut [u8],
     depth_f32: &mut [f32],
     p: &[u32],
     has_normal: bool,
     s: Settings,
-    inverse: Option<Matrix3>,
-    slot: Slot,
+    inverse: F,
+    slots: [Slot; SLOTS],
     textures: &[u32],
 ) -> Verdict
     requires plane_len { length plane.old ≡ plane_bytes }
     requires depth_f32_len { length depth_f32.old ≡ pixels }
     requires p_len { length p.now ≡ words_of has_normal true }
-    requires inverse_value { inverse ≡ normal_matrix_of s.matrices has_normal }
-    requires height_value { sides_ok kind.Texture slot.width slot.height ≡ true }
-    requires height_in_bounds { slot.start + area_of kind.Texture slot.width slot.height ≤ length textures.now }
-    ensures value { result ≡ checked_verdict p.now has_normal s.matrices }
-    ensures depth_f32_after { sheet plane.new depth_f32.new ≡ strokes_on (held_strokes s p.now has_normal slot.width slot.height (upload_at kind.Texture slot textures.now).words) (sheet plane.old depth_f32.old) }
+    requires inverse_callable { F.IsAlwaysCallable inverse }
+    requires inverse_value { (r : _) → F.post inverse r → r ≡ normal_matrix_of s.matrices has_normal }
+    requires slots_value { slots_ok kind.Texture (length textures.now) 0 slots ≡ true }
+    ensures value { result ≡ textured_verdict p.now has_normal (is_some (look_in kind.Texture slots textures.now (get_or p.now 0 0))) s.matrices }
+    ensures depth_f32_after { sheet plane.new depth_f32.new ≡ strokes_on (textured_strokes s p.now has_normal (look_in kind.Texture slots textures.now (get_or p.now 0 0))) (sheet plane.old depth_f32.old) }
 {
-    let corners = decide::verdicts::textured(p, has_normal, &s.matrices, inverse)?;
+    let Judged { slot, corners } = judge::textured(p, has_normal, &s.matrices, inverse, slots)?;
     paint_textured(
         plane, depth_f32, corners, has_normal, s, p[1], slot, textures,
     );
@@ -154,31 +153,8 @@ pub fn draw_textured_triangle(
     ensures value { result ≡ textured_verdict p.now has_normal (is_some (look_in kind.Texture slots textures.now (get_or p.now 0 0))) s.matrices }
     ensures depth_f32_after { sheet plane.new depth_f32.new ≡ strokes_on (textured_strokes s p.now has_normal (look_in kind.Texture slots textures.now (get_or p.now 0 0))) (sheet plane.old depth_f32.old) }
 {
-    let slot = mode_and_number(p, slots)?;
-    let inverse = normal_matrix(&s.matrices, has_normal);
-    draw_held(plane, depth_f32, p, has_normal, s, inverse, slot, textures)
-}
-
-// A triangle of a model, with the matrix for normals handed in: the records of a model share one.
-fn draw_record(
-    plane: &mut [u8],
-    depth_f32: &mut [f32],
-    p: &[u32],
-    s: Settings,
-    inverse: Option<Matrix3>,
-    slots: [Slot; SLOTS],
-    textures: &[u32],
-) -> Verdict
-    requires plane_len { length plane.old ≡ plane_bytes }
-    requires depth_f32_len { length depth_f32.old ≡ pixels }
-    requires p_len { length p.now ≡ 29 }
-    requires inverse_value { inverse ≡ normal_matrix_of s.matrices true }
-    requires slots_value { slots_ok kind.Texture (length textures.now) 0 slots ≡ true }
-    ensures value { result ≡ textured_verdict p.now true (is_some (look_in kind.Texture slots textures.now (get_or p.now 0 0))) s.matrices }
-    ensures depth_f32_after { sheet plane.new depth_f32.new ≡ strokes_on (textured_strokes s p.now true (look_in kind.Texture slots textures.now (get_or p.now 0 0))) (sheet plane.old depth_f32.old) }
-{
-    let slot = mode_and_number(p, slots)?;
-    draw_held(plane, depth_f32, p, true, s, inverse, slot, textures)
+    let inverse = || normal_matrix(&s.matrices, has_normal);
+    draw_judged(plane, depth_f32, p, has_normal, s, inverse, slots, textures)
 }
 
 // The records, each painted if it is not refused.
@@ -201,7 +177,16 @@ fn draw_records(
     let mut verdict: Verdict = Ok(());
     for record in words.chunks_exact(28) {
         let triangle = triangle_of(record, mode);
-        let one = draw_record(plane, depth_f32, &triangle, s, inverse, slots, textures);
+        let one = draw_judged(
+            plane,
+            depth_f32,
+            &triangle,
+            true,
+            s,
+            || inverse,
+            slots,
+            textures,
+        );
         verdict = verdict.and(one);
     }
     verdict

@@ -41,11 +41,11 @@ held_at None h = cc
 
 -- what is answered if the checks find nothing, and back
 module _ {A : Type 0} where
-  verdict_of : (v : Verdict) (a : A) {x : Refused} → passed v a ≡ Err x → v ≡ Err x
+  pub verdict_of : (v : Verdict) (a : A) {x : Refused} → passed v a ≡ Err x → v ≡ Err x
   verdict_of (Ok u) a h = cc
   verdict_of (Err e) a h = cc
 
-  answer_of : (v : Verdict) (a b : A) → passed v a ≡ Ok b → (v ≡ done) × (b ≡ a)
+  pub answer_of : (v : Verdict) (a b : A) → passed v a ≡ Ok b → (v ≡ done) × (b ≡ a)
   answer_of (Ok u) a b h = (refl, cc)
   answer_of (Err e) a b h = cc
 

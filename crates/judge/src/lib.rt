@@ -4,12 +4,15 @@
 
 pub mod model;
 
-ghost use Rattle.std.specs.Prelude.{◌≡◌, ◌≤◌, length};
+ghost use Rattle.std.specs.Prelude.{◌≡◌, true, ◌≤◌, length};
 ghost use Rattle.payload.specs.Words.{passed};
-ghost use Rattle.judge.specs.Judge.{named_verdict, slot_by};
+ghost use Rattle.decide.specs.Corners.{words_of, normal_matrix_of};
+ghost use Rattle.judge.specs.Judge.{named_verdict, slot_by, judged_by};
 
+use clip::vertex::ClipVertex;
 use payload::at_most;
 use store::{SLOTS, Slot};
+use vector::normal::Matrix3;
 use verdict::{Verdict, not_held};
 
 // The first two checks of 18, 19 and 1B, and the slot under the number: the mode, which is word 1,
@@ -21,4 +24,31 @@ pub fn mode_and_number(p: &[u32], slots: [Slot; SLOTS]) -> Verdict<Slot>
 {
     at_most(p, 1, 2)?;
     store::slots::find(slots, p[0]).ok_or(not_held())
+}
+
+// What is to be lit and painted: the texture's slot, and the corners.
+#[derive(Clone, Copy, Debug, PartialEq)]
+pub struct Judged {
+    pub slot: Slot,
+    pub corners: [ClipVertex; 3],
+}
+
+// 18, and with normals 19; a triangle of a model is judged as a 19. The matrix for normals is asked
+// for if the mode and the number passed: a 19 works it out then, and the records of a model share one.
+#[tactic(auto, unfolding(crate::specs::Judge::judged_by, crate::specs::Judge::named_verdict, decide::specs::Verdicts::textured_verdict))]
+pub fn textured<F: FnOnce() -> Option<Matrix3>>(
+    p: &[u32],
+    has_normal: bool,
+    m: &[f32; 48],
+    inverse: F,
+    slots: [Slot; SLOTS],
+) -> Verdict<Judged>
+    requires p_len { length p.now ≡ words_of has_normal true }
+    requires inverse_callable { F.IsAlwaysCallable inverse }
+    requires inverse_value { (r : _) → F.post inverse r → r ≡ normal_matrix_of m.now has_normal }
+    ensures { result ≡ judged_by p.now has_normal m.now slots }
+{
+    let slot = mode_and_number(p, slots)?;
+    let corners = decide::verdicts::textured(p, has_normal, m, inverse())?;
+    Ok(Judged { slot, corners })
 }

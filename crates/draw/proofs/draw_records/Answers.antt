@@ -8,9 +8,9 @@ loop-record-preserved c =
     let front = c.in-Some.ensures.steps in
     let inv = c.loop-record.invariant in
     let is = c.triangle_of-triangle.ensures in
-    let next = left_next _ _ _ _ _ _ _ _ c.draw_record-one.result _ _ _ inv.left front.1.0 (front.1.1 ∙ inv.size)
-    (rw is at c.draw_record-one.ensures.value) (rw is at c.draw_record-one.ensures.depth_f32_after) in
-    let joined = c.and-verdict.ensures ∙ and_is c.loop-record.verdict c.draw_record-one.result in
+    let next = left_next _ _ _ _ _ _ _ _ c.draw_judged-one.result _ _ _ inv.left front.1.0 (front.1.1 ∙ inv.size)
+    (rw is at c.draw_judged-one.ensures.value) (rw is at c.draw_judged-one.ensures.depth_f32_after) in
+    let joined = c.and-verdict.ensures ∙ and_is c.loop-record.verdict c.draw_judged-one.result in
     record { size = front.0 ∙ inv.size; left = rw joined next; plane_len = search rules; depth_f32_len = search rules }
 
 pub returns-clause-value : goal.returns-clause-value
