@@ -8,9 +8,11 @@ ghost use Rattle.store.specs.Slots.{slots_ok, look_in};
 ghost use Rattle.store.specs.declared.Kind.TheVariants as kind;
 ghost use Rattle.sprite.specs.Words.{sprite_verdict, sprite_drawn};
 
+use crate::cutout::Cutout;
 use store::{Kind, SLOTS, Slot};
 use verdict::{Verdict, not_held};
 
+pub mod cutout;
 pub mod draw;
 pub mod span;
 pub mod tone;
@@ -30,6 +32,7 @@ pub fn draw_sprite(plane: &mut [u8], p: &[u32], slots: [Slot; SLOTS], textures: 
     let start = slot.start as usize;
     let size = store::slots::area(Kind::Texture, slot.width, slot.height);
     let sprite = words::sprite_of(p, slot.width);
-    draw::draw(plane, &textures[start..start + size], sprite);
+    let texels = &textures[start..start + size];
+    draw::draw(plane, Cutout { sprite, texels });
     Ok(())
 }

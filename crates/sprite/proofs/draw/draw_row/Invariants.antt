@@ -7,4 +7,4 @@ use Rattle.sprite.specs.Sprite.{sprite_byte}
 use Rattle.sprite.proofs.draw.draw_row.Given as goal
 
 abbrev pub invariant-loop-x : goal.invariant-loop-x
-invariant-loop-x l = (l.x ≤ l.columns.end) × (l.plane ≡ map_range (sprite_byte l.s l.texels) (l.y * width * 4) ((l.y * width + l.x) * 4) l.initial.plane)
+invariant-loop-x l = (l.x ≤ l.columns.end) × (l.plane ≡ map_range (sprite_byte l.cut.sprite l.cut.texels.now) (l.y * width * 4) ((l.y * width + l.x) * 4) l.initial.plane)

@@ -7,4 +7,4 @@ use Rattle.sprite.specs.Sprite.{sprite_byte}
 use Rattle.sprite.proofs.draw.draw_rows.Given as goal
 
 abbrev pub invariant-loop-y : goal.invariant-loop-y
-invariant-loop-y l = (l.y ≤ l.rows.end) × (l.plane ≡ map_range (sprite_byte l.s l.texels) 0 (l.y * width * 4) l.initial.plane)
+invariant-loop-y l = (l.y ≤ l.rows.end) × (l.plane ≡ map_range (sprite_byte l.cut.sprite l.cut.texels.now) 0 (l.y * width * 4) l.initial.plane)
