@@ -1,74 +1,35 @@
 // What a line writes, with each part in braces replaced by what it asks. A pixel that is asked for
 // is read by the public call; those that are counted are read below it, by `screen`'s function.
-use state::State;
 use std::io;
-use std::io::Stdout;
-use tell::{Seen, say};
-use trial::line;
-use trial::line::Op;
-use vpu::{Answer, Fed};
-use words::least;
+use std::io::{Stdout, Write};
+use tell::Seen;
+use trial::line::{Op, until};
 
-fn number_of(answer: Answer) -> u64 {
-    match answer {
-        Answer::Done => 0,
-        Answer::WrongLength => 1,
-        Answer::Malformed => 2,
-    }
-}
-
-pub fn told(given: State, fed: Fed) -> Seen {
-    let answer = fed.answer;
-    tell::seen_after(number_of(answer), given, fed.state)
-}
-
-fn value(
-    out: Stdout,
-    op: Op,
-    seen: Seen,
-    changed: u32,
-    plane: &[u8],
-    depth: &[i32],
-    depth_f32: &[f32],
-) -> io::Result<()> {
-    let read = vpu::pixel(plane, op.a as usize, op.b as usize);
-    tell::value(out, op, seen, changed, read, plane, depth, depth_f32)
-}
-
-// Only what the call was lent is looked at.
-pub fn write(
-    out: Stdout,
-    text: &[u8],
-    seen: Seen,
-    changed: u32,
-    lengths: [usize; 6],
-    plane: &[u8],
-    depth: &[i32],
-    depth_f32: &[f32],
-) -> io::Result<()> {
-    let a = least(lengths[0], plane.len());
-    let b = least(lengths[1], depth.len());
-    let c = least(lengths[2], depth_f32.len());
-    let mut at = 0;
-    while at < text.len() {
-        let open = line::find(text, at, text.len(), b'{');
-        let close = line::find(text, open, text.len(), b'}');
-        say::text(out, &text[at..open])?;
-        if open < close {
-            value(
-                out,
-                line::op_in(&text[open..close]),
-                seen,
-                changed,
-                &plane[..a],
-                &depth[..b],
-                &depth_f32[..c],
-            )?;
+fn value(out: &mut Stdout, asked: &[u8], seen: &Seen) -> io::Result<()> {
+    match Op::within(asked) {
+        Some(op) => {
+            let [x, y, ..] = op.numbers;
+            let read = vpu::pixel(seen.plane, x as usize, y as usize);
+            tell::value(out, op, seen, read)
         }
-        at = close + 1;
+        None => tell::answer(out, seen),
     }
-    if 0 < text.len() {
-        say::text(out, b"\n")?;
+}
+
+pub fn write(out: &mut Stdout, text: &[u8], seen: &Seen) -> io::Result<()> {
+    let mut left = text;
+    while !left.is_empty() {
+        let (plain, braces) = until(left, b'{');
+        let (asked, after) = until(braces, b'}');
+        out.write_all(plain)?;
+        if !asked.is_empty() {
+            value(out, asked, seen)?;
+        }
+        // What is after the brace.
+        left = after.get(1..).unwrap_or(b"");
+    }
+    if !text.is_empty() {
+        out.write_all(b"\n")?;
     }
     Ok(())
 }

@@ -1,76 +1,65 @@
 // The calls, each lent as much of the memories as its line says.
-use crate::ask;
-use state::State;
 use tell::Seen;
-use trial::job;
-use trial::job::Plan;
-use trial::line::{Line, MOST};
-use words::least;
+use tell::amount::Amount;
+use trial::memories::Memories;
+use trial::plan::Plan;
+use trial::same;
+use vpu::{Answer, Fed};
 
-fn call(
-    reset: bool,
-    l: Line,
-    words: &[u32],
-    plane: &mut [u8],
-    depth: &mut [i32],
-    depth_f32: &mut [f32],
-    command: &mut [u32],
-    textures: &mut [u32],
-    models: &mut [u32],
-) -> Seen {
-    if reset {
-        return ask::told(
-            State::fresh(),
-            vpu::reset(plane, depth, depth_f32, command, textures, models),
-        );
-    }
-    let given = job::state(l);
-    ask::told(
-        given,
+// The first n, or all if there are fewer.
+fn first<T>(all: &[T], n: usize) -> &[T] {
+    &all[..n.min(all.len())]
+}
+
+fn first_mut<T>(all: &mut [T], n: usize) -> &mut [T] {
+    let end = n.min(all.len());
+    &mut all[..end]
+}
+
+pub fn call(plan: &Plan, words: &[u32], memories: &mut Memories) -> Fed {
+    let [a, b, c, d, e, f] = plan.lengths;
+    let plane = first_mut(&mut memories.plane, a);
+    let depth = first_mut(&mut memories.depth, b);
+    let depth_f32 = first_mut(&mut memories.depth_f32, c);
+    let command = first_mut(&mut memories.command, d);
+    let textures = first_mut(&mut memories.textures, e);
+    let models = first_mut(&mut memories.models, f);
+    if plan.reset {
+        vpu::reset(plane, depth, depth_f32, command, textures, models)
+    } else {
         vpu::feed(
-            given, words, plane, depth, depth_f32, command, textures, models,
-        ),
+            plan.state, words, plane, depth, depth_f32, command, textures, models,
+        )
+    }
+}
+
+fn number_of(answer: Answer) -> u32 {
+    match answer {
+        Answer::Done => 0,
+        Answer::WrongLength => 1,
+        Answer::Malformed => 2,
+    }
+}
+
+// How much the call changed of the state that it was given, and of the memories.
+fn changed(plan: &Plan, fed: &Fed, memories: &Memories) -> Amount {
+    let same = same::state(&plan.state, &fed.state);
+    let marked = memories.marked();
+    Amount::of(
+        same && marked.iter().all(|kept| *kept),
+        !same && !marked.iter().any(|kept| *kept),
     )
 }
 
-pub fn lent(
-    p: Plan,
-    l: Line,
-    words: &[u32; MOST],
-    plane: &mut [u8],
-    depth: &mut [i32],
-    depth_f32: &mut [f32],
-    command: &mut [u32],
-    textures: &mut [u32],
-    models: &mut [u32],
-) -> Seen {
-    let lengths = p.lengths;
-    let n = job::cut(
-        lengths,
-        plane.len(),
-        depth.len(),
-        depth_f32.len(),
-        command.len(),
-        textures.len(),
-        models.len(),
-    );
-    let a = n.plane;
-    let b = n.depth;
-    let c = n.depth_f32;
-    let d = n.command;
-    let e = n.textures;
-    let f = n.models;
-    let w: &[u32] = words;
-    let g = least(l.count, w.len());
-    call(
-        p.reset,
-        l,
-        &w[..g],
-        &mut plane[..a],
-        &mut depth[..b],
-        &mut depth_f32[..c],
-        &mut command[..d],
-        &mut textures[..e],
-        &mut models[..f],
-    )
+// Only what the call was lent is looked at.
+pub fn seen<'a>(plan: &Plan, fed: Fed, memories: &'a Memories) -> Seen<'a> {
+    let [a, b, c, ..] = plan.lengths;
+    Seen {
+        answer: number_of(fed.answer),
+        changed: changed(plan, &fed, memories),
+        state: fed.state,
+        plane: first(&memories.plane, a),
+        depth: first(&memories.depth, b),
+        depth_f32: first(&memories.depth_f32, c),
+    }
 }

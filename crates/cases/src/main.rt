@@ -6,99 +6,48 @@
 mod ask;
 mod lend;
 
+use std::alloc::Global;
 use std::io;
 use std::io::Stdout;
-use trial::line::{Line, MOST};
-use trial::{job, line, mark};
-
-// Plane and depths have one element more than the calls take, so that a length can be one too
-// great.
-const PLANE: usize = 307201;
-
-const DEPTH: usize = 76801;
-
-const COMMAND: usize = 524291;
-
-const TEXTURES: usize = 1024;
-
-const MODELS: usize = 524291;
+use trial::line;
+use trial::line::Line;
+use trial::memories::Memories;
+use trial::plan::Plan;
 
 // A line: marks, its call, and what it writes.
 fn play(
-    out: Stdout,
-    text: &[u8],
-    l: Line,
-    words: &[u32; MOST],
-    plane: &mut [u8],
-    depth: &mut [i32],
-    depth_f32: &mut [f32],
-    command: &mut [u32],
-    textures: &mut [u32],
-    models: &mut [u32],
+    out: &mut Stdout,
+    line: Line,
+    plan: &Plan,
+    words: &[u32],
+    memories: &mut Memories,
 ) -> io::Result<()> {
-    let p = job::of(l);
-    mark::memories(p.marked, plane, depth, depth_f32, command, textures, models);
-    let seen = lend::lent(
-        p, l, words, plane, depth, depth_f32, command, textures, models,
-    );
-    let changed = mark::changed(
-        seen.same, plane, depth, depth_f32, command, textures, models,
-    );
-    let lengths = p.lengths;
-    ask::write(out, text, seen, changed, lengths, plane, depth, depth_f32)
+    if plan.marked {
+        memories.mark();
+    }
+    let fed = lend::call(plan, words, memories);
+    ask::write(out, line.written, &lend::seen(plan, fed, memories))
 }
 
-fn run(
-    out: Stdout,
-    text: &[u8],
-    plane: &mut [u8],
-    depth: &mut [i32],
-    depth_f32: &mut [f32],
-    command: &mut [u32],
-    textures: &mut [u32],
-    models: &mut [u32],
-) -> io::Result<()> {
-    let mut words = [0u32; MOST];
-    let mut count = 0;
-    let mut at = line::skip(text, 0);
-    while at < text.len() {
-        let l = line::read(text, at, count, &mut words);
-        let end = l.end;
-        play(
-            out,
-            &text[at..end],
-            l,
-            &words,
-            plane,
-            depth,
-            depth_f32,
-            command,
-            textures,
-            models,
-        )?;
-        count = l.count;
-        at = l.next;
+// The lines, one after the other. One that gives no words goes on with those of the line before.
+fn run(out: &mut Stdout, alloc: Global, text: &[u8]) -> io::Result<()> {
+    let mut memories = Memories::new(alloc)?;
+    let mut words = Vec::new(alloc);
+    for text in text.split_inclusive(|b| *b == b'\n') {
+        if line::is_line(text) {
+            let line = Line::of(text);
+            if let Some(given) = line.words(alloc)? {
+                words = given;
+            }
+            let ops = line.ops(alloc)?;
+            play(out, line, &Plan::of(&ops), &words, &mut memories)?;
+        }
     }
     Ok(())
 }
 
 fn main(rt: HostRuntime) -> io::Result<()> {
     let mut text = [0u8; 16384];
-    let mut plane = [0u8; PLANE];
-    let mut depth = [0i32; DEPTH];
-    let mut depth_f32 = [0f32; DEPTH];
-    let mut command = [0u32; COMMAND];
-    let mut textures = [0u32; TEXTURES];
-    let mut models = [0u32; MODELS];
     let n = console::read_full(&mut rt.stdin(), &mut text)?;
-    run(
-        rt.stdout(),
-        &text[..n],
-        &mut plane,
-        &mut depth,
-        &mut depth_f32,
-        &mut command,
-        &mut textures,
-        &mut models,
-    )
+    run(&mut rt.stdout(), rt.alloc(), &text[..n])
 }

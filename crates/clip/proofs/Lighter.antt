@@ -7,7 +7,7 @@ use lib.ListN.{length-map}
 use lib.Ieee.{Float, unlike}
 use Rattle.clip.specs.declared.vertex.ClipVertex.{ClipVertex}
 use Rattle.clip.specs.Polygons.{Kind, inside_of, crossing_of, side_of, sides_from, last_of, clip, clip_from, clip_all, fan_from, fan}
-use Rattle.clip.specs.Vertices.{distance_of, mix2_of, mix4_of, mix_vertex, full}
+use Rattle.clip.specs.Vertices.{distance_of, mixed_of, mix_vertex, full}
 
 -- l sees of a vertex what k does, through f
 pub record Sees {X : Type 0} {Y : Type 0} (k : Kind X) (l : Kind Y) (f : X → Y) : Type 0 where
@@ -81,7 +81,7 @@ lighten v = record { position = v.position; color = v.color; uv = v.uv }
 abbrev pub light : Kind LightVertex
 light = record {
   distance = λ plane v. distance_of plane v.position;
-  between = λ t p c. record { position = mix4_of t p.position c.position; color = mix4_of t p.color c.color; uv = mix2_of t p.uv c.uv };
+  between = λ t p c. record { position = mixed_of 4 t p.position c.position; color = mixed_of 4 t p.color c.color; uv = mixed_of 2 t p.uv c.uv };
 }
 
 pub sees : Sees full light lighten

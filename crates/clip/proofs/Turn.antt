@@ -97,9 +97,8 @@ module _ (plane : ℕ) (all : List ClipVertex) (count : ℕ) (long : length all 
   used : length (take count all) ≡ count
   used = length-take-le count all (omega arith)
 
-  pub side-of : {i : ℕ} {e : Float} → i < count → e ≡ distance_of plane (get_or all i no_vertex).position → Side plane (take count all) i (get_or all i no_vertex) e
-  side-of {i} h f =
-      record { here = omega (arith, used); ends = get_or-take count all i no_vertex h; far = f; fits = omega (arith, twice_most full plane (take count all), used) }
+  pub side-of : {i : ℕ} {e : Float} → i < count → e ≡ distance_of plane (get_or (take count all) i no_vertex).position → Side plane (take count all) i (get_or (take count all) i no_vertex) e
+  side-of {i} h f = record { here = omega (arith, used); ends = refl; far = f; fits = omega (arith, twice_most full plane (take count all), used) }
 
   pub begun : {d : Float} → 0 < count → d ≡ distance_of plane (get_or all (count - 1) no_vertex).position → Walked plane (take count all) (get_or all (count - 1) no_vertex) d all 0 0
   begun h f =

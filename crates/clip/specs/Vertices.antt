@@ -1,6 +1,7 @@
 -- The vertex that is clipped and the polygon by value. The original's `ClipVertex`, `clip_distance` and what `clip_polygon` pushes at a crossing.
 -- Definitions only.
-use Rattle.std.specs.Prelude.{◌≡◌, ℕ, ◌≤◌, cond, List, [], ◌∷◌, length, take, ◌==◌, Float}
+use Rattle.std.specs.Prelude.{◌≡◌, ℕ, ◌≤◌, cond, List, [], length, map, take, ◌==◌, Float}
+use Rattle.std.specs.List.{range_with_len}
 use Rattle.vector.specs.Three.{◌⊕◌, ◌⊖◌, ◌·◌, at, normal_of}
 use Rattle.clip.specs.declared.vertex.ClipVertex.{ClipVertex}
 use Rattle.clip.specs.declared.polygon.Polygon.{Polygon}
@@ -23,24 +24,18 @@ distance_of plane position =
 abbrev pub mix_of : Float → Float → Float → Float
 mix_of t p c = p ⊕ t · (c ⊖ p)
 
--- `std::array::from_fn` over two, three and four of them
-abbrev pub mix2_of : Float → List Float → List Float → List Float
-mix2_of t p c = mix_of t (at p 0) (at c 0) ∷ mix_of t (at p 1) (at c 1) ∷ []
-
-abbrev pub mix3_of : Float → List Float → List Float → List Float
-mix3_of t p c = mix_of t (at p 0) (at c 0) ∷ mix_of t (at p 1) (at c 1) ∷ mix_of t (at p 2) (at c 2) ∷ []
-
-abbrev pub mix4_of : Float → List Float → List Float → List Float
-mix4_of t p c = mix_of t (at p 0) (at c 0) ∷ mix_of t (at p 1) (at c 1) ∷ mix_of t (at p 2) (at c 2) ∷ mix_of t (at p 3) (at c 3) ∷ []
+-- `std::array::from_fn` over n of them
+abbrev pub mixed_of : ℕ → Float → List Float → List Float → List Float
+mixed_of n t p c = map (λ i. mix_of t (at p i) (at c i)) (range_with_len 0 n)
 
 -- `output.push(ClipVertex { .. })`: each field by itself, the normal normalised again
 unfoldable pub mix_vertex : Float → ClipVertex → ClipVertex → ClipVertex
 mix_vertex t p c = record {
-  position = mix4_of t p.position c.position;
-  view_position = mix3_of t p.view_position c.view_position;
-  normal = normal_of (mix3_of t p.normal c.normal);
-  color = mix4_of t p.color c.color;
-  uv = mix2_of t p.uv c.uv;
+  position = mixed_of 4 t p.position c.position;
+  view_position = mixed_of 3 t p.view_position c.view_position;
+  normal = normal_of (mixed_of 3 t p.normal c.normal);
+  color = mixed_of 4 t p.color c.color;
+  uv = mixed_of 2 t p.uv c.uv;
 }
 
 -- the vertex with all its fields, as a kind

@@ -8,6 +8,8 @@ use crate::vertex::{ClipVertex, clip_distance, mix_vertex};
 // What six planes can make of three vertices, however the distances round.
 pub const ROOM: usize = 28;
 
+// Stays: the machine's memory is fixed, and the kit's `ArrayVec` is no plainer: it is not Copy, and its
+// `new` wants a vertex to begin with.
 #[derive(Clone, Copy)]
 pub struct Polygon {
     pub vertices: [ClipVertex; ROOM],
@@ -32,9 +34,7 @@ fn first_out(vertex: ClipVertex, plane: usize, stop: usize) -> usize
 fn first_cut(triangle: [ClipVertex; 3]) -> usize
     ensures { result ≡ next_cut full 6 0 triangle }
 {
-    let a = triangle[0];
-    let b = triangle[1];
-    let c = triangle[2];
+    let [a, b, c] = triangle;
     first_out(c, 0, first_out(b, 0, first_out(a, 0, 6)))
 }
 
@@ -51,11 +51,9 @@ fn next_cut(polygon: Polygon, plane: usize) -> usize
     requires plane_bound { plane ≤ 6 }
     ensures { result ≡ next_cut full (6 - plane) plane (of polygon) }
 {
-    let count = polygon.count;
     let mut stop: usize = 6;
-    for i in 0..count {
-        let vertex = polygon.vertices[i];
-        stop = first_out(vertex, plane, stop);
+    for vertex in &polygon.vertices[..polygon.count] {
+        stop = first_out(*vertex, plane, stop);
     }
     stop
 }
@@ -73,9 +71,8 @@ pub fn clip_polygon(polygon: Polygon, plane: usize) -> Polygon
     let mut previous_distance = clip_distance(previous, plane);
     let mut output = polygon.vertices;
     let mut n: usize = 0;
-    let mut i: usize = 0;
-    while i < count {
-        let current = polygon.vertices[i];
+    for vertex in &polygon.vertices[..count] {
+        let current = *vertex;
         let current_distance = clip_distance(current, plane);
         let previous_inside = previous_distance >= 0.0;
         let current_inside = current_distance >= 0.0;
@@ -90,7 +87,6 @@ pub fn clip_polygon(polygon: Polygon, plane: usize) -> Polygon
         }
         previous = current;
         previous_distance = current_distance;
-        i += 1;
     }
     Polygon {
         vertices: output,
@@ -102,16 +98,9 @@ pub fn clip_polygon(polygon: Polygon, plane: usize) -> Polygon
 pub fn clip_all(triangle: [ClipVertex; 3]) -> Polygon
     ensures { Holds result (clip_all full triangle) }
 {
-    let a = triangle[0];
-    let b = triangle[1];
-    let c = triangle[2];
-    let mut vertices = [a; ROOM];
-    vertices[1] = b;
-    vertices[2] = c;
-    let mut polygon = Polygon {
-        vertices: vertices,
-        count: 3,
-    };
+    let mut vertices = [triangle[0]; ROOM];
+    vertices[..3].copy_from_slice(&triangle);
+    let mut polygon = Polygon { vertices, count: 3 };
     let mut plane = first_cut(triangle);
     while plane < 6 {
         polygon = clip_polygon(polygon, plane);

@@ -7,7 +7,7 @@ ghost use Rattle.command.specs.Command.{command_of, setting_words, draw_words};
 use store::Kind;
 
 // What a command sets: shading mode and lighting, a matrix, a light.
-#[derive(Clone, Copy)]
+#[derive(Clone, Copy, Debug, PartialEq, Eq)]
 pub enum Setting {
     Mode,
     Matrix,
@@ -15,7 +15,7 @@ pub enum Setting {
 }
 
 // What a command paints. `has_normal`: each vertex comes with one.
-#[derive(Clone, Copy)]
+#[derive(Clone, Copy, Debug, PartialEq, Eq)]
 pub enum Draw {
     Clear,
     Sprite,
@@ -25,32 +25,33 @@ pub enum Draw {
     Model,
 }
 
-#[derive(Clone, Copy)]
+#[derive(Clone, Copy, Debug, PartialEq, Eq)]
 pub enum Command {
     Sets(Setting),
     Loads(Kind),
     Paints(Draw),
-    Unknown,
 }
 
-pub fn command_of(opcode: u32) -> Command
+// The command with this opcode, if there is one.
+#[tactic(auto, unfolding(crate::specs::Command::command_of))]
+pub fn command_of(opcode: u32) -> Option<Command>
     ensures { result ≡ command_of opcode }
 {
     match opcode {
-        0x01 => Command::Sets(Setting::Mode),
-        0x02 => Command::Sets(Setting::Matrix),
-        0x04 => Command::Paints(Draw::Clear),
-        0x10 => Command::Paints(Draw::Sprite),
-        0x12 => Command::Paints(Draw::Flat),
-        0x14 => Command::Paints(Draw::Transformed { has_normal: false }),
-        0x15 => Command::Sets(Setting::Light),
-        0x16 => Command::Paints(Draw::Transformed { has_normal: true }),
-        0x17 => Command::Loads(Kind::Texture),
-        0x18 => Command::Paints(Draw::Textured { has_normal: false }),
-        0x19 => Command::Paints(Draw::Textured { has_normal: true }),
-        0x1a => Command::Loads(Kind::Model),
-        0x1b => Command::Paints(Draw::Model),
-        _ => Command::Unknown,
+        0x01 => Some(Command::Sets(Setting::Mode)),
+        0x02 => Some(Command::Sets(Setting::Matrix)),
+        0x04 => Some(Command::Paints(Draw::Clear)),
+        0x10 => Some(Command::Paints(Draw::Sprite)),
+        0x12 => Some(Command::Paints(Draw::Flat)),
+        0x14 => Some(Command::Paints(Draw::Transformed { has_normal: false })),
+        0x15 => Some(Command::Sets(Setting::Light)),
+        0x16 => Some(Command::Paints(Draw::Transformed { has_normal: true })),
+        0x17 => Some(Command::Loads(Kind::Texture)),
+        0x18 => Some(Command::Paints(Draw::Textured { has_normal: false })),
+        0x19 => Some(Command::Paints(Draw::Textured { has_normal: true })),
+        0x1a => Some(Command::Loads(Kind::Model)),
+        0x1b => Some(Command::Paints(Draw::Model)),
+        _ => None,
     }
 }
 
@@ -72,18 +73,10 @@ pub fn draw_words(draw: Draw) -> usize
         Draw::Clear => 3,
         Draw::Sprite => 7,
         Draw::Flat => 11,
-        Draw::Transformed { has_normal } => {
-            if has_normal {
-                return 21;
-            }
-            12
-        }
-        Draw::Textured { has_normal } => {
-            if has_normal {
-                return 29;
-            }
-            20
-        }
+        Draw::Transformed { has_normal: false } => 12,
+        Draw::Transformed { has_normal: true } => 21,
+        Draw::Textured { has_normal: false } => 20,
+        Draw::Textured { has_normal: true } => 29,
         Draw::Model => 2,
     }
 }

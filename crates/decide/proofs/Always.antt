@@ -10,9 +10,9 @@ use lib.Ieee.Scale.{finite}
 use Rattle.vector.specs.Three.{at}
 use Rattle.vector.specs.Matrices.{transform_of}
 use Rattle.vector.specs.declared.normal.Matrix3.{Matrix3}
-use Rattle.verdict.specs.declared.Reason.{Reason}
-use Rattle.verdict.specs.declared.Verdict.{Verdict}
-use Rattle.verdict.specs.declared.Verdict.TheVariants.{Done, Refused}
+use Rattle.verdict.specs.declared.Refused.{Refused}
+use Rattle.verdict.specs.Verdict.{Verdict, because, done}
+use Rattle.std.specs.Prelude.{Ok, Err}
 use Rattle.verdict.specs.declared.Reason.TheVariants.{NotFinite}
 use Rattle.clip.specs.declared.vertex.ClipVertex.{ClipVertex}
 use Rattle.payload.specs.Words.{float_at, at_most, finite_from}
@@ -22,20 +22,20 @@ use Rattle.decide.specs.Verdicts.{invertible_of, held_of, finite4, reached_of, i
 use Rattle.decide.proofs.Finite.{row_finite}
 
 -- ---- done, so each of the checks is
-never : {A : Type 0} {reason : Reason} {index : ℕ} → Refused reason index ≡ Done → A
+never : {A : Type 0} {e : Refused} → ◌≡◌ {A = Verdict} (Err e) done → A
 never h = let z : ◌≡◌ {A = ℕ} 0 1 = cc in absurd (omega arith)
 
 -- refused because not done
-by_done : (a b : Verdict) → (b ≡ Done → a ≡ Done) → refused a ≡ true → refused b ≡ true
-by_done a Done f h = rw (f refl) at h
-by_done a (Refused reason index) f h = refl
+by_done : (a b : Verdict) → (b ≡ done → a ≡ done) → refused a ≡ true → refused b ≡ true
+by_done a (Ok u) f h = rw (f refl) at h
+by_done a (Err e) f h = refl
 
 -- ---- 18's vertex
-reached_finite : (v : ClipVertex) (o : ℕ) → reached_of v o ≡ Done → finite (at v.position 0) ≡ true
+reached_finite : (v : ClipVertex) (o : ℕ) → reached_of v o ≡ done → finite (at v.position 0) ≡ true
 unfolding finite4
 reached_finite v o h = go (finite (at v.position 0)) _ h
   where
-    go : (a b : Bool) → cond (a && b) Done (Refused NotFinite o) ≡ Done → a ≡ true
+    go : (a b : Bool) → cond (a && b) done (Err (because NotFinite o)) ≡ done → a ≡ true
     go true b h = refl
     go false b h = never h
 
@@ -50,7 +50,7 @@ past_three p o x y z =
     let three : o + 2 + 1 ≡ o + 3 = omega arith in
     step p o 4 x ∙ step p (o + 1) 3 y ∙ rw two (step p (o + 2) 2 z ∙ rw three)
 
-vertex_done : (p : List ℕ) (o : ℕ) (m : List Float) (matrix : Matrix3) → plain_vertex p (corner_of p o false true m matrix) o ≡ Done → finite_from p o 5 ≡ Done
+vertex_done : (p : List ℕ) (o : ℕ) (m : List Float) (matrix : Matrix3) → plain_vertex p (corner_of p o false true m matrix) o ≡ done → finite_from p o 5 ≡ done
 unfolding plain_vertex corner_of projected_of view_of
 vertex_done p o m matrix h =
     let v = corner_of p o false true m matrix in
@@ -59,7 +59,7 @@ vertex_done p o m matrix h =
     let input = row_finite m 0 (input_of p o) model.x in
     past_three p o input.x input.y input.z ∙ next_done (reached_of v o) _ h
 
-plain_done : (p : List ℕ) (m : List Float) → plain_of p (corners_of p false true m) ≡ Done → inputs_of p false true ≡ Done
+plain_done : (p : List ℕ) (m : List Float) → plain_of p (corners_of p false true m) ≡ done → inputs_of p false true ≡ done
 unfolding plain_of corners_of corners_by inputs_of
 plain_done p m h =
     let k = or_zero (normal_matrix_of m false) in
@@ -68,16 +68,16 @@ plain_done p m h =
     rw (vertex_done p 2 m k (first_done _ _ h), vertex_done p 8 m k (first_done _ _ rest), vertex_done p 14 m k (next_done (checked 8) _ rest))
 
 -- ---- the commands
-transformed_done : (p : List ℕ) (normal : Bool) (m : List Float) → transformed_verdict p normal m ≡ Done → always_transformed p normal ≡ Done
+transformed_done : (p : List ℕ) (normal : Bool) (m : List Float) → transformed_verdict p normal m ≡ done → always_transformed p normal ≡ done
 unfolding transformed_verdict transformed_by
 transformed_done p normal m h = first_done _ _ (next_done (invertible_of (normal_matrix_of m normal)) _ h)
 
-checked_done : (p : List ℕ) (normal : Bool) (m : List Float) → checked_verdict p normal m ≡ Done → inputs_of p normal true ≡ Done
+checked_done : (p : List ℕ) (normal : Bool) (m : List Float) → checked_verdict p normal m ≡ done → inputs_of p normal true ≡ done
 unfolding checked_verdict textured_by
 checked_done p true m h = next_done (invertible_of (normal_matrix_of m true)) _ h
 checked_done p false m h = plain_done p m (next_done (invertible_of (normal_matrix_of m false)) _ h)
 
-textured_done : (p : List ℕ) (normal held : Bool) (m : List Float) → textured_verdict p normal held m ≡ Done → always_textured p normal ≡ Done
+textured_done : (p : List ℕ) (normal held : Bool) (m : List Float) → textured_verdict p normal held m ≡ done → always_textured p normal ≡ done
 unfolding textured_verdict
 textured_done p normal held m h =
     let range = first_done (at_most p 1 2) _ h in

@@ -1,4 +1,3 @@
-pub mod Words
 pub mod Finite
 pub mod Decided
 pub mod Always

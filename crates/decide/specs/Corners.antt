@@ -1,14 +1,12 @@
 -- From the words of a float triangle to its corners. One vertex is its position, then its normal and its texture coordinates if the command has them, then its colour. In the original: `draw_transformed_triangle_impl`, `draw_textured_triangle`, `draw_textured_lit_triangle`. Definitions only.
 --     has_normal   16 and 19
 --     textured     18 and 19, whose first two words are the texture's number and the mode
-use Rattle.std.specs.Prelude.{ℕ, ◌+◌, ◌*◌, Bool, cond, List, [], ◌∷◌, get_or, Float}
+use Rattle.std.specs.Prelude.{ℕ, ◌+◌, ◌*◌, Bool, cond, List, [], ◌∷◌, get_or, Option, Some, None, Float}
 use Rattle.ieee.specs.Units.{zero32, one32}
 use Rattle.vector.specs.Three.{at, normal_of}
 use Rattle.vector.specs.Matrices.{transform_of, multiply_of}
 use Rattle.vector.specs.Normals.{inverse_transpose_of, apply_of}
 use Rattle.vector.specs.declared.normal.Matrix3.{Matrix3}
-use Rattle.vector.specs.declared.normal.Inverse.{Inverse}
-use Rattle.vector.specs.declared.normal.Inverse.TheVariants.{Of, Singular}
 use Rattle.clip.specs.declared.vertex.ClipVertex.{ClipVertex}
 use Rattle.clip.specs.Vertices.{no_vertex}
 use Rattle.payload.specs.Words.{word_at, float_at, three_at, color_of}
@@ -78,13 +76,13 @@ corner tri i = get_or tri i no_vertex
 abbrev pub zero3 : Matrix3
 zero3 = record { a = zero32; b = zero32; c = zero32; d = zero32; e = zero32; f = zero32; g = zero32; h = zero32; i = zero32 }
 
-unfoldable pub normal_matrix_of : List Float → Bool → Inverse
-normal_matrix_of m normal = cond normal (inverse_transpose_of (multiply_of m 16 0)) (Of zero3)
+unfoldable pub normal_matrix_of : List Float → Bool → Option Matrix3
+normal_matrix_of m normal = cond normal (inverse_transpose_of (multiply_of m 16 0)) (Some zero3)
 
 -- the matrix, if there is one
-abbrev pub or_zero : Inverse → Matrix3
-or_zero (Of matrix) = matrix
-or_zero Singular = zero3
+abbrev pub or_zero : Option Matrix3 → Matrix3
+or_zero (Some matrix) = matrix
+or_zero None = zero3
 
 -- `vertices`, before they are lit
 unfoldable pub corners_by : List ℕ → Bool → Bool → List Float → Matrix3 → List ClipVertex

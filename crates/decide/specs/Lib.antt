@@ -1,3 +1,2 @@
 pub mod Corners
 pub mod Verdicts
-pub mod Checked

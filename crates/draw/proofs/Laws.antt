@@ -1,56 +1,39 @@
 -- The draws' definitions, by what their checks come to: for the proofs of the functions. Assumes nothing.
-use Prim.Native.Nat.{ℕ, suc, ◌+◌, ◌-◌, ◌*◌, ◌≤◌, ◌<◌}
+use Prim.Native.Nat.{ℕ, ◌/◌, ◌<◌}
 use mathlib.Core.Path.{◌≡◌, refl, sym, ap, ◌∙◌}
 use mathlib.Core.Bool.{Bool, true, false, cond, ◌&&◌}
 use mathlib.Core.Option.{Option, none, some}
-use mathlib.Core.List.{List, []}
+use mathlib.Core.List.{List, [], ◌∷◌, ◌++◌}
 use lib.Dec.{eqb, leb, ltb}
 use borrow.Author.Tests.{leb-true, ltb-true}
 use native.Mathlib.Omega.{arith}
-use lib.ListN.{drop}
+use lib.ListN.{length}
+use Rattle.std.specs.Prelude.{Some, None, Result, Ok, Err}
+use Rattle.std.specs.Prelude as std
+use Rattle.std.specs.Result.{result_and}
 use Rattle.clip.specs.declared.vertex.ClipVertex.{ClipVertex}
 use Rattle.settings.specs.declared.Settings.{Settings}
 use Rattle.stroke.specs.declared.Brush.{Brush}
 use Rattle.stroke.specs.declared.Brush.TheVariants.{Flat, Blended}
-use Rattle.stroke.specs.Strokes.{Sheet, Stroke, stroke, stroke_on, strokes_on, Stored}
+use Rattle.stroke.specs.Strokes.{Sheet, stroke, stroke_on, strokes_on, Stored}
 use Rattle.stroke.proofs.Laws.{strokes_append}
 use Rattle.store.specs.Uploads.{Whole, is_some}
 use Rattle.store.specs.Slots.{area_of, sides_ok, upload_at, slot_for, looked, look_in}
 use Rattle.store.specs.declared.Slot.{Slot}
 use Rattle.store.specs.declared.Kind.TheVariants.{Texture, Model}
-use Rattle.store.specs.declared.Found.{Found}
-use Rattle.store.specs.declared.Found.TheVariants.{At, Nothing}
 use Rattle.laws.proofs.Bools.{and_left, and_right}
-use Rattle.verdict.specs.declared.Reason.{Reason}
-use Rattle.verdict.specs.declared.Verdict.{Verdict}
-use Rattle.verdict.specs.declared.Verdict.TheVariants.{Done, Refused}
+use Rattle.verdict.specs.declared.Refused.{Refused}
+use Rattle.verdict.specs.Verdict.{Verdict, done, passed}
 use Rattle.payload.specs.Words.{and_then, when_done, word_at, at_most}
 use Rattle.verdict.proofs.Checks.{first_done, next_done, and_assoc, and_done}
 use Rattle.decide.specs.Corners.{corners_of}
-use Rattle.decide.specs.Verdicts.{held_of, transformed_verdict, checked_verdict, textured_verdict, triangle_of, records_verdict}
-use Rattle.decide.specs.Checked.{blank}
-use Rattle.lit.specs.Lit.{transformed_lit, textured_lit}
-use Rattle.draw.specs.Draws.{flat_color, shaded_brush, transformed_corners, transformed_strokes, textured_corners, textured_brush, textured_stroke, held_strokes, textured_strokes, records_strokes, model_strokes, has_in}
-use Rattle.judge.specs.Judge.{is_at, held_in, named_verdict, slot_by}
+use Rattle.decide.specs.Verdicts.{held_of, checked_verdict, textured_verdict, triangle_of, records_verdict}
+use Rattle.lit.specs.Lit.{textured_lit}
+use Rattle.draw.specs.Draws.{flat_color, shaded_brush, textured_corners, textured_brush, textured_stroke, held_strokes, textured_strokes, records_strokes, model_strokes, has_in}
+use Rattle.judge.specs.Judge.{is_at, held_in, named_verdict, slot_by, judged_by}
+use Rattle.judge.specs.declared.Judged.{Judged}
 use Rattle.store.proofs.Places.{look_some}
-use Rattle.judge.proofs.Laws.{look-held, mode_done, found_by, next_record, records_next, records_none}
-
--- ---- 14 and 16
-module _ (s : Settings) (p : List ℕ) (normal : Bool) (a : Sheet) where
-  pub transformed_done : (b : Sheet) (corners tri : List ClipVertex) (brush : Brush)
-      → transformed_verdict p normal s.matrices ≡ Done
-      → corners ≡ when_done (transformed_verdict p normal s.matrices) (corners_of p normal false s.matrices) blank
-      → tri ≡ transformed_lit s.lighting_enabled s.shading_mode s.lights normal corners
-      → brush ≡ shaded_brush s.shading_mode tri
-      → b ≡ stroke_on (stroke tri brush []) a → b ≡ strokes_on (transformed_strokes s p normal) a
-  unfolding strokes_on transformed_strokes transformed_corners
-  transformed_done b corners tri brush v c t k e =
-      let whole : corners ≡ corners_of p normal false s.matrices = rw v at c in
-      rw (v, ← whole, ← t, ← k) e
-
-  pub transformed_refused : (r : Reason) (i : ℕ) → transformed_verdict p normal s.matrices ≡ Refused r i → a ≡ strokes_on (transformed_strokes s p normal) a
-  unfolding strokes_on transformed_strokes
-  transformed_refused r i v = rw v
+use Rattle.judge.proofs.Laws.{look-held, verdict_of, answer_of, named_refused, mode_done, found_by, front_word, front_triangle, behind, one_more, records_next, records_none}
 
 -- ---- corners lit and painted with the texture of a slot
 pub textured_painted_lem : (s : Settings) (mode : ℕ) (normal : Bool) (corners tri : List ClipVertex) (u : Whole) (brush : Brush) (texels : List ℕ) (a b : Sheet)
@@ -59,48 +42,62 @@ pub textured_painted_lem : (s : Settings) (mode : ℕ) (normal : Bool) (corners 
 unfolding textured_stroke
 textured_painted_lem s mode normal corners tri u brush texels a b t k w e = rw (← t, ← k, ← w) e
 
--- ---- 18 and 19, by the verdict that was given, and the slot and the corners that were handed on
-none-painted : {A : Type 0} (v w : Verdict) {reason : Reason} {index : ℕ} (a b : A) → and_then v w ≡ Refused reason index → b ≡ when_done v (when_done w a b) b
-none-painted Done w a b h = rw h
-none-painted (Refused reason index) w a b h = refl
+-- ---- 18 and 19, by what judging them came to
+none-painted : {A : Type 0} (v w : Verdict) {x : Refused} (a b : A) → and_then v w ≡ Err x → when_done v (when_done w a b) b ≡ b
+none-painted (Ok u) w a b h = rw h
+none-painted (Err e) w a b h = refl
 
-module _ (s : Settings) (p : List ℕ) (normal : Bool) (a : Sheet) where
-  found_refused : (found : Option Whole) {reason : Reason} {index : ℕ} → textured_verdict p normal (is_some found) s.matrices ≡ Refused reason index
-      → a ≡ strokes_on (textured_strokes s p normal found) a
-  unfolding strokes_on textured_verdict textured_strokes held_strokes
-  found_refused none h = refl
-  found_refused (some u) h = ap (λ (l : List Stroke). strokes_on l a) (none-painted (at_most p 1 2) (checked_verdict p normal s.matrices) _ [] h)
+module _ (s : Settings) (p : List ℕ) (normal : Bool) where
+  bare : (found : Option Whole) {x : Refused} → textured_verdict p normal (is_some found) s.matrices ≡ Err x → textured_strokes s p normal found ≡ []
+  unfolding textured_verdict textured_strokes held_strokes
+  bare none h = refl
+  bare (some u) h = none-painted (at_most p 1 2) (checked_verdict p normal s.matrices) _ [] h
 
-  found_done : (u : Whole) (b : Sheet) → textured_verdict p normal true s.matrices ≡ Done
-      → b ≡ stroke_on (textured_stroke s (word_at p 1) normal (corners_of p normal true s.matrices) u) a → b ≡ strokes_on (textured_strokes s p normal (some u)) a
-  unfolding strokes_on textured_verdict textured_strokes held_strokes textured_corners textured_stroke
-  found_done u b v e = rw (first_done (at_most p 1 2) _ v, next_done (at_most p 1 2) _ v) e
+  painted : (u : Whole) → textured_verdict p normal true s.matrices ≡ done
+      → textured_strokes s p normal (some u) ≡ textured_stroke s (word_at p 1) normal (corners_of p normal true s.matrices) u ∷ []
+  unfolding textured_verdict textured_strokes held_strokes textured_corners textured_stroke
+  painted u h = rw (first_done (at_most p 1 2) _ h, next_done (at_most p 1 2) _ h)
 
-  module _ (slots : List Slot) (store : List ℕ) {verdict : Verdict} (e : verdict ≡ textured_verdict p normal (held_in slots (word_at p 0)) s.matrices) where
-    pub judged_refused : {reason : Reason} {index : ℕ} → verdict ≡ Refused reason index
-        → (verdict ≡ textured_verdict p normal (is_some (look_in Texture slots store (word_at p 0))) s.matrices)
-        × (a ≡ strokes_on (textured_strokes s p normal (look_in Texture slots store (word_at p 0))) a)
+  module _ (slots : List Slot) (store : List ℕ) {judged : Result Judged Refused} (e : judged ≡ judged_by p normal s.matrices slots) where
+    same : textured_verdict p normal (is_some (look_in Texture slots store (word_at p 0))) s.matrices ≡ textured_verdict p normal (held_in slots (word_at p 0)) s.matrices
+    same = rw (look-held Texture slots store (word_at p 0))
+
+    -- refused: nothing is painted
+    pub judged_refused : {x : Refused} → judged ≡ Err x → (textured_verdict p normal (is_some (look_in Texture slots store (word_at p 0))) s.matrices ≡ Err x)
+        × (textured_strokes s p normal (look_in Texture slots store (word_at p 0)) ≡ [])
+    unfolding judged_by
     judged_refused h =
-        let same : verdict ≡ textured_verdict p normal (is_some (look_in Texture slots store (word_at p 0))) s.matrices = rw (look-held Texture slots store (word_at p 0)) e in
-        (same, found_refused (look_in Texture slots store (word_at p 0)) (sym same ∙ h))
+        let v = same ∙ verdict_of (textured_verdict p normal (held_in slots (word_at p 0)) s.matrices) _ (sym e ∙ h) in
+        (v, bare (look_in Texture slots store (word_at p 0)) v)
 
-    module _ {slot : Slot} (done : verdict ≡ Done) (is : slot ≡ slot_by p slots) where
-      pub judged_found : slot_for (word_at p 0) slots ≡ At slot
-      unfolding textured_verdict named_verdict
-      judged_found =
+    -- accepted: the slot that is handed on is the one that is held, and its texture is painted
+    module _ {j : Judged} (h : judged ≡ Ok j) where
+      both : (textured_verdict p normal (held_in slots (word_at p 0)) s.matrices ≡ done) × (j ≡ record { slot = slot_by p slots; corners = corners_of p normal true s.matrices })
+      unfolding judged_by
+      both = answer_of (textured_verdict p normal (held_in slots (word_at p 0)) s.matrices) _ j (sym e ∙ h)
+
+      named : named_verdict p slots ≡ done
+      unfolding named_verdict textured_verdict
+      named =
           let held = held_of (held_in slots (word_at p 0)) in
-          let both = and_assoc (at_most p 1 2) held (checked_verdict p normal s.matrices) ∙ sym e ∙ done in
-          found_by p slots refl (first_done (and_then (at_most p 1 2) held) _ both) is
+          first_done (and_then (at_most p 1 2) held) (checked_verdict p normal s.matrices) (and_assoc (at_most p 1 2) held (checked_verdict p normal s.matrices) ∙ both.0)
 
-      pub judged_done : (b : Sheet) (corners : List ClipVertex) → corners ≡ when_done verdict (corners_of p normal true s.matrices) blank
-          → b ≡ stroke_on (textured_stroke s (word_at p 1) normal corners (upload_at Texture slot store)) a
-          → (verdict ≡ textured_verdict p normal (is_some (look_in Texture slots store (word_at p 0))) s.matrices)
-          × (b ≡ strokes_on (textured_strokes s p normal (look_in Texture slots store (word_at p 0))) a)
-      judged_done b corners c k =
-          let some_is = look_some Texture slots store (word_at p 0) slot judged_found in
-          let same : verdict ≡ textured_verdict p normal (is_some (look_in Texture slots store (word_at p 0))) s.matrices = rw (look-held Texture slots store (word_at p 0)) e in
-          let whole : corners ≡ corners_of p normal true s.matrices = rw done at c in
-          (same, rw some_is (found_done (upload_at Texture slot store) b (sym (rw some_is at same) ∙ done) (rw whole at k)))
+      slot_is : j.slot ≡ slot_by p slots
+      slot_is = ap (λ (i : Judged). i.slot) both.1
+
+      pub judged_found : slot_for (word_at p 0) slots ≡ Some j.slot
+      judged_found =
+          let handed : passed (named_verdict p slots) (slot_by p slots) ≡ Ok (slot_by p slots) = rw named in
+          rw slot_is (found_by p slots refl handed)
+
+      pub judged_done : textured_verdict p normal (is_some (look_in Texture slots store (word_at p 0))) s.matrices ≡ done
+      judged_done = same ∙ both.0
+
+      pub judged_painted : textured_strokes s p normal (look_in Texture slots store (word_at p 0)) ≡ textured_stroke s (word_at p 1) normal j.corners (upload_at Texture j.slot store) ∷ []
+      judged_painted =
+          let is = look_some Texture slots store (word_at p 0) j.slot judged_found in
+          let corners : j.corners ≡ corners_of p normal true s.matrices = ap (λ (i : Judged). i.corners) both.1 in
+          rw (is, corners) (painted (upload_at Texture j.slot store) (rw is at judged_done))
 
 -- ---- brushes and their textures
 pub shaded_stored : (shading n : ℕ) (tri : List ClipVertex) (brush : Brush) → brush ≡ shaded_brush shading tri → Stored brush n
@@ -129,56 +126,61 @@ textured_stored width height mode n tri brush e h l =
     })
 
 -- ---- 1B: record after record
-module _ (s : Settings) (mode : ℕ) (textures : ℕ → Option Whole) (words : List ℕ) (n : ℕ) where
-  -- no record is left
-  last_sheets : (m : ℕ) (a b : Sheet) (ws : List ℕ) → m ≡ 0 → strokes_on (records_strokes s mode textures m ws) a ≡ b → a ≡ b
-  unfolding records_strokes strokes_on
-  last_sheets m a b ws z e = rw z at e
+-- std's `and` is the definitions' `and_then`
+pub and_is : (a b : Verdict) → result_and a b ≡ and_then a b
+and_is (Ok u) b = refl
+and_is (Err e) b = refl
 
-  -- the records from k on, whose verdict and strokes complete what came before to the whole
-  pub record Left (a₀ a : Sheet) (v : Verdict) (k : ℕ) : Type 0 where
-    pub within : k ≤ n
-    pub verdict : and_then v (records_verdict mode (has_in textures) s.matrices (n - k) (drop (28 * k) words)) ≡ records_verdict mode (has_in textures) s.matrices n words
-    pub sheets : strokes_on (records_strokes s mode textures (n - k) (drop (28 * k) words)) a ≡ strokes_on (records_strokes s mode textures n words) a₀
-
-  pub left_all : (a : Sheet) → Left a a Done 0
-  left_all a =
-      let m : n - 0 ≡ n = omega arith in
-      record { within = omega arith; verdict = rw m; sheets = rw m }
-
-  pub left_next : (a₀ a b : Sheet) (v one : Verdict) (k : ℕ) → Left a₀ a v k → k < n
-      → one ≡ textured_verdict (triangle_of mode (drop (28 * k) words)) true (has_in textures (word_at (drop (28 * k) words) 0)) s.matrices
-      → b ≡ strokes_on (textured_strokes s (triangle_of mode (drop (28 * k) words)) true (textures (word_at (drop (28 * k) words) 0))) a
-      → Left a₀ b (and_then v one) (k + 1)
+module _ (s : Settings) (mode : ℕ) (textures : ℕ → Option Whole) where
+  strokes_next : (front rest : List ℕ) → length front ≡ 28 → records_strokes s mode textures (length (front ++ rest) / 28) (front ++ rest)
+      ≡ textured_strokes s (triangle_of mode front) true (textures (word_at front 0)) ++ records_strokes s mode textures (length rest / 28) rest
   unfolding records_strokes
-  left_next a₀ a b v one k h more e f =
-      let m : n - k ≡ suc (n - (k + 1)) = omega arith in
-      let d = next_record words k in
-      record {
-        within = omega arith;
-        verdict = rw (and_assoc v one (records_verdict mode (has_in textures) s.matrices (n - (k + 1)) (drop (28 * (k + 1)) words)), e, ← records_next mode (has_in textures) s.matrices words n k more) h.verdict;
-        sheets = rw (d, f) (sym (strokes_append (textured_strokes s (triangle_of mode (drop (28 * k) words)) true (textures (word_at (drop (28 * k) words) 0))) (records_strokes s mode textures (n - (k + 1)) (drop 28 (drop (28 * k) words))) a) ∙ rw m at h.sheets);
-      }
+  strokes_next front rest h = rw (one_more front rest h, front_triangle front rest h mode, front_word front rest h, behind front rest h)
 
-  pub left_none : (a₀ a : Sheet) (v : Verdict) (k : ℕ) → Left a₀ a v k → n ≤ k
-      → (v ≡ records_verdict mode (has_in textures) s.matrices n words) × (a ≡ strokes_on (records_strokes s mode textures n words) a₀)
-  left_none a₀ a v k h done =
-      let z : n - k ≡ 0 = omega arith in
-      (sym (and_done v) ∙ rw (records_none mode (has_in textures) s.matrices words n k done) at h.verdict, last_sheets (n - k) a _ (drop (28 * k) words) z h.sheets)
+  strokes_none : (words : List ℕ) → length words < 28 → records_strokes s mode textures (length words / 28) words ≡ []
+  unfolding records_strokes
+  strokes_none words h =
+      let none : length words / 28 ≡ 0 = omega arith in
+      rw none
+
+  module _ (words : List ℕ) where
+    -- the records of `left`, whose verdict and strokes complete what came before to the whole
+    pub record Left (a₀ a : Sheet) (v : Verdict) (left : List ℕ) : Type 0 where
+      pub verdict : and_then v (records_verdict mode (has_in textures) s.matrices (length left / 28) left) ≡ records_verdict mode (has_in textures) s.matrices (length words / 28) words
+      pub sheets : strokes_on (records_strokes s mode textures (length left / 28) left) a ≡ strokes_on (records_strokes s mode textures (length words / 28) words) a₀
+
+    pub left_all : (a : Sheet) → Left a a done words
+    left_all a = record { verdict = refl; sheets = refl }
+
+    pub left_next : (a₀ a b : Sheet) (v one : Verdict) (left front rest : List ℕ) → Left a₀ a v left → left ≡ front ++ rest → length front ≡ 28
+        → one ≡ textured_verdict (triangle_of mode front) true (has_in textures (word_at front 0)) s.matrices
+        → b ≡ strokes_on (textured_strokes s (triangle_of mode front) true (textures (word_at front 0))) a
+        → Left a₀ b (and_then v one) rest
+    left_next a₀ a b v one left front rest h is long e f =
+        let tail = records_verdict mode (has_in textures) s.matrices (length rest / 28) rest in
+        record {
+          verdict = rw (and_assoc v one tail, e, ← records_next front rest long mode (has_in textures) s.matrices, ← is) h.verdict;
+          sheets = rw f (sym (strokes_append (textured_strokes s (triangle_of mode front) true (textures (word_at front 0))) (records_strokes s mode textures (length rest / 28) rest) a) ∙ rw (is, strokes_next front rest long) at h.sheets);
+        }
+
+    pub left_none : (a₀ a : Sheet) (v : Verdict) (left : List ℕ) → Left a₀ a v left → length left < 28
+        → (v ≡ records_verdict mode (has_in textures) s.matrices (length words / 28) words) × (a ≡ strokes_on (records_strokes s mode textures (length words / 28) words) a₀)
+    unfolding strokes_on
+    left_none a₀ a v left h short =
+        (sym (and_done v) ∙ rw (records_none mode (has_in textures) s.matrices left short) at h.verdict, rw (strokes_none left short) at h.sheets)
 
 -- and whole, by the slot that is found
-module _ (s : Settings) (p : List ℕ) (textures : ℕ → Option Whole) (a : Sheet) (slots : List Slot) (store : List ℕ) {named : Verdict} (e : named ≡ named_verdict p slots) where
-  go_unpainted : (f : Found) {reason : Reason} {index : ℕ} → named ≡ and_then (at_most p 1 2) (held_of (is_at f)) → named ≡ Refused reason index
-      → a ≡ strokes_on (model_strokes s p textures (looked Model store f)) a
-  unfolding strokes_on model_strokes
-  go_unpainted (At slot) k h = rw (sym (k ∙ and_done (at_most p 1 2)) ∙ h)
-  go_unpainted Nothing k h = refl
+module _ (s : Settings) (p : List ℕ) (textures : ℕ → Option Whole) (slots : List Slot) (store : List ℕ) {named : Result Slot Refused} (e : named ≡ passed (named_verdict p slots) (slot_by p slots)) where
+  go_unpainted : (f : std.Option Slot) {x : Refused} → and_then (at_most p 1 2) (held_of (is_at f)) ≡ Err x → model_strokes s p textures (looked Model store f) ≡ []
+  unfolding model_strokes
+  go_unpainted (Some slot) k = rw (rw (and_done (at_most p 1 2)) at k)
+  go_unpainted None k = refl
 
-  pub model_unpainted : {reason : Reason} {index : ℕ} → named ≡ Refused reason index → a ≡ strokes_on (model_strokes s p textures (look_in Model slots store (word_at p 0))) a
+  pub model_unpainted : {x : Refused} → named ≡ Err x → model_strokes s p textures (look_in Model slots store (word_at p 0)) ≡ []
   unfolding named_verdict
-  model_unpainted h = go_unpainted (slot_for (word_at p 0) slots) e h
+  model_unpainted h = go_unpainted (slot_for (word_at p 0) slots) (named_refused p slots e h)
 
-  pub model_painted_lem : (slot : Slot) → named ≡ Done → slot_for (word_at p 0) slots ≡ At slot
+  pub model_painted : {slot : Slot} → named ≡ Ok slot
       → records_strokes s (word_at p 1) textures slot.width (upload_at Model slot store).words ≡ model_strokes s p textures (look_in Model slots store (word_at p 0))
   unfolding model_strokes
-  model_painted_lem slot h f = rw (f, mode_done p slots e h)
+  model_painted h = rw (found_by p slots e h, mode_done p slots e h)

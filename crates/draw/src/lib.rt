@@ -2,7 +2,7 @@
 // is accepted is lit and painted (`stroke`).
 #![tactic(auto)]
 
-ghost use Rattle.std.specs.Prelude.{◌≡◌, true, false, ◌+◌, ◌*◌, ◌≤◌, length, get_or};
+ghost use Rattle.std.specs.Prelude.{◌≡◌, true, false, ◌+◌, ◌/◌, ◌≤◌, length, get_or};
 ghost use Rattle.screen.specs.Plane.{plane_bytes};
 ghost use Rattle.screen.specs.Draw.{pixels};
 ghost use Rattle.stroke.specs.Strokes.{sheet, stroke_on, strokes_on};
@@ -15,26 +15,26 @@ ghost use Rattle.draw.specs.Draws.{flat_color, shaded_brush, transformed_strokes
 ghost use Rattle.judge.specs.Judge.{model_verdict};
 
 use clip::vertex::ClipVertex;
+use decide::corner::normal_matrix;
+use judge::model::triangle_of;
+use judge::{Judged, mode_and_number};
 use raster::ink::Color;
 use settings::Settings;
 use store::{Kind, SLOTS, Slot};
 use stroke::{Brush, Texture};
-use vector::normal::Inverse;
-use verdict::{Verdict, and_then};
+use vector::normal::Matrix3;
+use verdict::Verdict;
 
 // The colour of vertex 0, before clipping.
+#[tactic(auto, unfolding(crate::specs::Draws::flat_color))]
 fn flat_color(tri: [ClipVertex; 3]) -> Color
     ensures { result ≡ flat_color tri }
 {
-    let v = tri[0];
-    Color {
-        r: v.color[0],
-        g: v.color[1],
-        b: v.color[2],
-        a: v.color[3],
-    }
+    let [r, g, b, a] = tri[0].color;
+    Color { r, g, b, a }
 }
 
+#[tactic(auto, unfolding(crate::specs::Draws::shaded_brush))]
 fn shaded_brush(shading_mode: u32, tri: [ClipVertex; 3]) -> Brush
     ensures { result ≡ shaded_brush shading_mode tri }
 {
@@ -45,6 +45,7 @@ fn shaded_brush(shading_mode: u32, tri: [ClipVertex; 3]) -> Brush
 }
 
 // 14, and with normals 16.
+#[tactic(auto, unfolding(crate::specs::Draws::transformed_strokes, crate::specs::Draws::transformed_corners, stroke::specs::Strokes::strokes_on))]
 pub fn draw_transformed_triangle(
     plane: &mut [u8],
     depth_f32: &mut [f32],
@@ -58,31 +59,20 @@ pub fn draw_transformed_triangle(
     ensures value { result ≡ transformed_verdict p.now has_normal s.matrices }
     ensures depth_f32_after { sheet plane.new depth_f32.new ≡ strokes_on (transformed_strokes s p.now has_normal) (sheet plane.old depth_f32.old) }
 {
-    let m = s.matrices;
-    let checked = decide::verdicts::transformed(p, has_normal, &m);
-    let verdict = checked.verdict;
-    let Verdict::Done = verdict else {
-        return verdict;
-    };
-    let corners = checked.corners;
-    let lights = s.lights;
+    let corners = decide::verdicts::transformed(p, has_normal, &s.matrices)?;
     let tri = lit::transformed_lit(
         corners,
         has_normal,
         s.lighting_enabled,
         s.shading_mode,
-        lights,
+        &s.lights,
     );
-    stroke::paint(
-        plane,
-        depth_f32,
-        tri,
-        shaded_brush(s.shading_mode, tri),
-        &[],
-    );
-    verdict
+    let brush = shaded_brush(s.shading_mode, tri);
+    stroke::paint(plane, depth_f32, tri, brush, &[]);
+    Ok(())
 }
 
+#[tactic(auto, unfolding(crate::specs::Draws::textured_brush))]
 fn textured_brush(slot: Slot, mode: u32, tri: [ClipVertex; 3]) -> Brush
     ensures { result ≡ textured_brush slot.width slot.height mode tri }
 {
@@ -111,12 +101,39 @@ fn paint_textured(
     requires height_in_bounds { slot.start + area_of kind.Texture slot.width slot.height ≤ length textures.now }
     ensures { sheet plane.new depth_f32.new ≡ stroke_on (textured_stroke s mode has_normal corners (upload_at kind.Texture slot textures.now)) (sheet plane.old depth_f32.old) }
 {
-    let lights = s.lights;
-    let tri = lit::textured_lit(corners, has_normal, s.lighting_enabled, mode, lights);
+    let tri = lit::textured_lit(corners, has_normal, s.lighting_enabled, mode, &s.lights);
     let brush = textured_brush(slot, mode, tri);
     let start = slot.start as usize;
     let size = store::slots::area(Kind::Texture, slot.width, slot.height);
     stroke::paint(plane, depth_f32, tri, brush, &textures[start..start + size]);
+}
+
+// 18 and 19, and a triangle of a model as a 19. The matrix for normals is asked for if the mode and
+// the number passed.
+fn draw_judged<F: FnOnce() -> Option<Matrix3>>(
+    plane: &mut [u8],
+    depth_f32: &mut [f32],
+    p: &[u32],
+    has_normal: bool,
+    s: Settings,
+    inverse: F,
+    slots: [Slot; SLOTS],
+    textures: &[u32],
+) -> Verdict
+    requires plane_len { length plane.old ≡ plane_bytes }
+    requires depth_f32_len { length depth_f32.old ≡ pixels }
+    requires p_len { length p.now ≡ words_of has_normal true }
+    requires inverse_callable { F.IsAlwaysCallable inverse }
+    requires inverse_value { (r : _) → F.post inverse r → r ≡ normal_matrix_of s.matrices has_normal }
+    requires slots_value { slots_ok kind.Texture (length textures.now) 0 slots ≡ true }
+    ensures value { result ≡ textured_verdict p.now has_normal (is_some (look_in kind.Texture slots textures.now (get_or p.now 0 0))) s.matrices }
+    ensures depth_f32_after { sheet plane.new depth_f32.new ≡ strokes_on (textured_strokes s p.now has_normal (look_in kind.Texture slots textures.now (get_or p.now 0 0))) (sheet plane.old depth_f32.old) }
+{
+    let Judged { slot, corners } = judge::textured(p, has_normal, &s.matrices, inverse, slots)?;
+    paint_textured(
+        plane, depth_f32, corners, has_normal, s, p[1], slot, textures,
+    );
+    Ok(())
 }
 
 // 18, and with normals 19.
@@ -136,51 +153,11 @@ pub fn draw_textured_triangle(
     ensures value { result ≡ textured_verdict p.now has_normal (is_some (look_in kind.Texture slots textures.now (get_or p.now 0 0))) s.matrices }
     ensures depth_f32_after { sheet plane.new depth_f32.new ≡ strokes_on (textured_strokes s p.now has_normal (look_in kind.Texture slots textures.now (get_or p.now 0 0))) (sheet plane.old depth_f32.old) }
 {
-    let m = s.matrices;
-    let judged = judge::textured(p, has_normal, &m, slots);
-    let verdict = judged.verdict;
-    let Verdict::Done = verdict else {
-        return verdict;
-    };
-    let corners = judged.corners;
-    let slot = judged.slot;
-    paint_textured(
-        plane, depth_f32, corners, has_normal, s, p[1], slot, textures,
-    );
-    verdict
+    let inverse = || normal_matrix(&s.matrices, has_normal);
+    draw_judged(plane, depth_f32, p, has_normal, s, inverse, slots, textures)
 }
 
-// A triangle of a model, with the matrix for normals handed in.
-fn draw_record(
-    plane: &mut [u8],
-    depth_f32: &mut [f32],
-    p: &[u32],
-    s: Settings,
-    inverse: Inverse,
-    slots: [Slot; SLOTS],
-    textures: &[u32],
-) -> Verdict
-    requires plane_len { length plane.old ≡ plane_bytes }
-    requires depth_f32_len { length depth_f32.old ≡ pixels }
-    requires p_len { length p.now ≡ 29 }
-    requires inverse_value { inverse ≡ normal_matrix_of s.matrices true }
-    requires slots_value { slots_ok kind.Texture (length textures.now) 0 slots ≡ true }
-    ensures value { result ≡ textured_verdict p.now true (is_some (look_in kind.Texture slots textures.now (get_or p.now 0 0))) s.matrices }
-    ensures depth_f32_after { sheet plane.new depth_f32.new ≡ strokes_on (textured_strokes s p.now true (look_in kind.Texture slots textures.now (get_or p.now 0 0))) (sheet plane.old depth_f32.old) }
-{
-    let m = s.matrices;
-    let judged = judge::model_triangle(p, &m, inverse, slots);
-    let verdict = judged.verdict;
-    let Verdict::Done = verdict else {
-        return verdict;
-    };
-    let corners = judged.corners;
-    let slot = judged.slot;
-    paint_textured(plane, depth_f32, corners, true, s, p[1], slot, textures);
-    verdict
-}
-
-// The first n records, each painted if it is not refused.
+// The records, each painted if it is not refused.
 fn draw_records(
     plane: &mut [u8],
     depth_f32: &mut [f32],
@@ -189,25 +166,28 @@ fn draw_records(
     textures: &[u32],
     mode: u32,
     words: &[u32],
-    n: usize,
 ) -> Verdict
     requires plane_len { length plane.old ≡ plane_bytes }
     requires depth_f32_len { length depth_f32.old ≡ pixels }
     requires slots_value { slots_ok kind.Texture (length textures.now) 0 slots ≡ true }
-    requires words_len { length words.now ≡ 28 * n }
-    requires n_bound { n ≤ 18724 }
-    ensures value { result ≡ records_verdict mode (has_in (look_in kind.Texture slots textures.now)) s.matrices n words.now }
-    ensures depth_f32_after { sheet plane.new depth_f32.new ≡ strokes_on (records_strokes s mode (look_in kind.Texture slots textures.now) n words.now) (sheet plane.old depth_f32.old) }
+    ensures value { result ≡ records_verdict mode (has_in (look_in kind.Texture slots textures.now)) s.matrices (length words.now / 28) words.now }
+    ensures depth_f32_after { sheet plane.new depth_f32.new ≡ strokes_on (records_strokes s mode (look_in kind.Texture slots textures.now) (length words.now / 28) words.now) (sheet plane.old depth_f32.old) }
 {
-    let m = s.matrices;
-    let inverse = decide::corner::normal_matrix(&m, true);
-    let mut verdict = Verdict::Done;
-    let mut k: usize = 0;
-    while k < n {
-        let triangle = judge::model::triangle_of(words, 28 * k, mode);
-        let one = draw_record(plane, depth_f32, &triangle, s, inverse, slots, textures);
-        verdict = and_then(verdict, one);
-        k += 1;
+    let inverse = normal_matrix(&s.matrices, true);
+    let mut verdict: Verdict = Ok(());
+    for record in words.chunks_exact(28) {
+        let triangle = triangle_of(record, mode);
+        let one = draw_judged(
+            plane,
+            depth_f32,
+            &triangle,
+            true,
+            s,
+            || inverse,
+            slots,
+            textures,
+        );
+        verdict = verdict.and(one);
     }
     verdict
 }
@@ -231,14 +211,9 @@ pub fn draw_model(
     ensures value { result ≡ model_verdict p.now (has_in (look_in kind.Texture slots textures.now)) s.matrices (look_in kind.Model model_slots models.now (get_or p.now 0 0)) }
     ensures depth_f32_after { sheet plane.new depth_f32.new ≡ strokes_on (model_strokes s p.now (look_in kind.Texture slots textures.now) (look_in kind.Model model_slots models.now (get_or p.now 0 0))) (sheet plane.old depth_f32.old) }
 {
-    let named = judge::mode_and_number(p, model_slots);
-    let verdict = named.verdict;
-    let Verdict::Done = verdict else {
-        return verdict;
-    };
-    let slot = named.slot;
+    let slot = mode_and_number(p, model_slots)?;
     let start = slot.start as usize;
-    let count = slot.width as usize;
+    let end = start + 28 * slot.width as usize;
     draw_records(
         plane,
         depth_f32,
@@ -246,7 +221,6 @@ pub fn draw_model(
         slots,
         textures,
         p[1],
-        &models[start..start + 28 * count],
-        count,
+        &models[start..end],
     )
 }

@@ -8,17 +8,17 @@ use native.Mathlib.Omega.{arith}
 use borrow.Author.Tests.{eqb-true}
 use lib.Dec.{eqb}
 use lib.ListN.{length, take, length-take}
-use Rattle.verdict.specs.declared.Verdict.{Verdict}
-use Rattle.verdict.specs.declared.Verdict.TheVariants.{Done, Refused}
+use Rattle.std.specs.Prelude.{Some, None, Result, Ok, Err, ⊤}
+use Rattle.std.specs.Prelude as std
+use Rattle.verdict.specs.Verdict.{Verdict, done, passed}
+use Rattle.verdict.specs.declared.Refused.{Refused}
 use Rattle.settings.specs.declared.Settings.{Settings}
-use Rattle.settings.specs.declared.Changed.{Changed}
-use Rattle.settings.specs.Settings.{changed, mode_verdict, with_mode, matrix_verdict, with_matrix, light_verdict, with_light, settings_ok}
+use Rattle.settings.specs.Settings.{mode_verdict, with_mode, matrix_verdict, with_matrix, light_verdict, with_light, settings_ok}
 use Rattle.settings.proofs.Formed as settings
 use Rattle.payload.specs.Words.{when_done}
 use Rattle.store.specs.declared.Kind.{Kind}
 use Rattle.store.specs.declared.Kind.TheVariants.{Texture, Model}
-use Rattle.store.specs.declared.Room.{Room}
-use Rattle.store.specs.declared.Room.TheVariants.{Fits, NoSlot, NoWords}
+use Rattle.store.specs.declared.NoRoom.{NoRoom}
 use Rattle.store.specs.Uploads.{Whole, Card, card, stored}
 use Rattle.store.specs.Slots as slots
 use Rattle.store.specs.Slots.{slots_ok, is_fits}
@@ -30,9 +30,9 @@ use Rattle.state.specs.State.{most_payload}
 use Rattle.command.specs.declared.Setting.{Setting}
 use Rattle.command.specs.declared.Setting.TheVariants as setting
 use Rattle.command.specs.declared.Command.{Command}
-use Rattle.command.specs.declared.Command.TheVariants.{Sets, Loads, Paints, Unknown}
+use Rattle.command.specs.declared.Command.TheVariants.{Sets, Loads, Paints}
 use Rattle.command.specs.Command.{command_of}
-use Rattle.execute.specs.Commands.{Look, Load, of_length, settings_after, texture_in, model_in, texture_verdict, count_verdict, load_told, told_as, told}
+use Rattle.execute.specs.Commands.{Look, Load, value_or, of_length, settings_after, texture_in, model_in, texture_verdict, count_verdict, load_told, told_as, told}
 use Rattle.execute.specs.Control.{Control, kept_of, execute}
 use Rattle.laws.proofs.Bools.{either}
 use Rattle.execute.specs.Kept.{Shelf, Formed, Box, room_on, put_on, shelf_of, put_box, as_box}
@@ -49,24 +49,29 @@ of_length_lem P n p x y a b = go (eqb (length p) n) refl
 -- ---- the settings
 -- what holds of them before a command, and after those that set, holds after every command
 module _ (P : Settings → Type 0) (s : Settings) (p : List ℕ) (old : P s)
-    (mode : P (changed (mode_verdict p) (with_mode s p) s).settings)
-    (matrix : length p ≡ 17 → P (changed (matrix_verdict p) (with_matrix s p) s).settings)
-    (light : P (changed (light_verdict p) (with_light s p) s).settings) where
-  abbrev After : Changed → Type 0
-  After r = P r.settings
+    (mode : P (when_done (mode_verdict p) (with_mode s p) s))
+    (matrix : length p ≡ 17 → P (when_done (matrix_verdict p) (with_matrix s p) s))
+    (light : P (when_done (light_verdict p) (with_light s p) s)) where
+  abbrev After : Result Settings Refused → Type 0
+  After r = P (value_or s r)
+
+  -- if checks that came to v find nothing, it is t
+  after_checks : (v : Verdict) (t : Settings) → P (when_done v t s) → After (passed v t)
+  after_checks (Ok u) t h = h
+  after_checks (Err e) t h = h
 
   set_keeps : (x : Setting) → After (settings_after s x p)
   unfolding settings_after
-  set_keeps setting.Mode = of_length_lem After 2 p _ _ (λ n. mode) old
-  set_keeps setting.Matrix = of_length_lem After 17 p _ _ matrix old
-  set_keeps setting.Light = of_length_lem After 17 p _ _ (λ n. light) old
+  set_keeps setting.Mode = of_length_lem After 2 p _ _ (λ n. after_checks (mode_verdict p) (with_mode s p) mode) old
+  set_keeps setting.Matrix = of_length_lem After 17 p _ _ (λ n. after_checks (matrix_verdict p) (with_matrix s p) (matrix n)) old
+  set_keeps setting.Light = of_length_lem After 17 p _ _ (λ n. after_checks (light_verdict p) (with_light s p) light) old
 
-  as_keeps : (look : Look) (c : Command) → P (told_as look s c p).settings
-  as_keeps look (Sets x) = set_keeps x
-  as_keeps look (Loads Texture) = old
-  as_keeps look (Loads Model) = old
-  as_keeps look (Paints d) = old
-  as_keeps look Unknown = old
+  as_keeps : (look : Look) (c : std.Option Command) → P (told_as look s c p).settings
+  as_keeps look (Some (Sets x)) = set_keeps x
+  as_keeps look (Some (Loads Texture)) = old
+  as_keeps look (Some (Loads Model)) = old
+  as_keeps look (Some (Paints d)) = old
+  as_keeps look None = old
 
   settings_keep : (op : ℕ) (look : Look) → P (told look s op p).settings
   unfolding told
@@ -77,9 +82,9 @@ abbrev pub Passed : Option Load → Type 0
 Passed none = Unit {0}
 Passed (some l) = Sized l.kind (card l.whole)
 
-when_passed : (v : Verdict) (l : Load) → (v ≡ Done → Passed (some l)) → Passed (when_done v (some l) none)
-when_passed Done l h = h refl
-when_passed (Refused reason index) l h = tt
+when_passed : (v : Verdict) (l : Load) → (v ≡ done → Passed (some l)) → Passed (when_done v (some l) none)
+when_passed (Ok u) l h = h refl
+when_passed (Err e) l h = tt
 
 module _ (s : Settings) (p : List ℕ) (most : length p ≤ most_payload) where
   texture_passed : Passed (load_told s Texture p).load
@@ -96,12 +101,12 @@ module _ (s : Settings) (p : List ℕ) (most : length p ≤ most_payload) where
       let q = count_passes p most e in
       record { sides = q.sides; size = q.size })
 
-  as_passed : (look : Look) (c : Command) → Passed (told_as look s c p).load
-  as_passed look (Sets x) = tt
-  as_passed look (Loads Texture) = texture_passed
-  as_passed look (Loads Model) = model_passed
-  as_passed look (Paints d) = tt
-  as_passed look Unknown = tt
+  as_passed : (look : Look) (c : std.Option Command) → Passed (told_as look s c p).load
+  as_passed look (Some (Sets x)) = tt
+  as_passed look (Some (Loads Texture)) = texture_passed
+  as_passed look (Some (Loads Model)) = model_passed
+  as_passed look (Some (Paints d)) = tt
+  as_passed look None = tt
 
   pub load_passed : (op : ℕ) (look : Look) → Passed (told look s op p).load
   unfolding told
@@ -113,7 +118,7 @@ pub record Sound (k : Kind) (s : Shelf) (n : ℕ) : Type 0 where
   pub long : length s.words ≡ n
   pub formed : Formed k s.slots n
 
-module _ (k : Kind) (s : Shelf) (n : ℕ) (h : Sound k s n) (u : Whole) (sized : Sized k (card u)) (fits : room_on k s u ≡ Fits) where
+module _ (k : Kind) (s : Shelf) (n : ℕ) (h : Sound k s n) (u : Whole) (sized : Sized k (card u)) (fits : room_on k s u ≡ Ok _) where
   abbrev cs : List Card
   cs = slots.told k s.slots
 
@@ -136,7 +141,7 @@ pub record Stands (b : Box) (t m : ℕ) : Type 0 where
   pub models : Sound Model b.models m
 
 module _ {b : Box} {t m : ℕ} (h : Stands b t m) where
-  put_stands : (k : Kind) (u : Whole) → Sized k (card u) → room_on k (shelf_of b k) u ≡ Fits → Stands (put_box b k u) t m
+  put_stands : (k : Kind) (u : Whole) → Sized k (card u) → room_on k (shelf_of b k) u ≡ Ok _ → Stands (put_box b k u) t m
   put_stands Texture u z e = record { textures = put_sound Texture b.textures t h.textures u z e; models = h.models }
   put_stands Model u z e = record { textures = h.textures; models = put_sound Model b.models m h.models u z e }
 
@@ -144,10 +149,9 @@ module _ {b : Box} {t m : ℕ} (h : Stands b t m) where
   kept_stands none q = h
   kept_stands (some l) q = go (room_on l.kind (shelf_of b l.kind) l.whole) refl
     where
-      go : (r : Room) → room_on l.kind (shelf_of b l.kind) l.whole ≡ r → Stands (cond (is_fits r) (put_box b l.kind l.whole) b) t m
-      go Fits e = put_stands l.kind l.whole q e
-      go NoSlot e = h
-      go NoWords e = h
+      go : (r : Result ⊤ NoRoom) → room_on l.kind (shelf_of b l.kind) l.whole ≡ r → Stands (cond (is_fits r) (put_box b l.kind l.whole) b) t m
+      go (Ok u) e = put_stands l.kind l.whole q e
+      go (Err why) e = h
 
 -- the command area is as it was
 kept-area : (b : Box) (o : Option Load) → (kept_of as_box b o).area ≡ b.area

@@ -14,26 +14,32 @@ use Rattle.laws.specs.Cells.{map_at}
 use Rattle.screen.specs.Plane.{paint}
 use Rattle.screen.specs.Depths.{far_ints, far_floats}
 use Rattle.screen.specs.declared.plane.Rgba.{Rgba}
+use Rattle.std.specs.Prelude.{Result, Ok, Err, ⊤}
+use Rattle.std.specs.Result.{MatchResult, IsErrAnd}
+use Rattle.std.proofs.lemmas.Result.{err_from_is_err_and}
 use Rattle.verdict.specs.declared.Reason.{Reason}
-use Rattle.verdict.specs.declared.Reason.TheVariants.{OutOfRange}
-use Rattle.verdict.specs.declared.Verdict.{Verdict}
-use Rattle.verdict.specs.declared.Verdict.TheVariants.{Done, Refused}
+use Rattle.verdict.specs.declared.Reason.TheVariants.{WrongLength, OutOfRange}
+use Rattle.verdict.specs.Verdict.{Verdict, refused, done}
+use Rattle.verdict.specs.declared.Refused.{Refused}
 use Rattle.payload.specs.Words.{word_at, at_most}
 use Rattle.settings.specs.declared.Settings.{Settings}
-use Rattle.settings.specs.Settings.{changed}
 use Rattle.store.specs.declared.Kind.{Kind}
 use Rattle.store.specs.declared.Kind.TheVariants.{Texture, Model}
 use Rattle.store.specs.declared.Slot.{Slot}
-use Rattle.store.specs.declared.Stored.{Stored}
+use Rattle.store.specs.declared.NoRoom.{NoRoom}
 use Rattle.store.specs.Uploads.{Whole}
-use Rattle.store.specs.Slots.{area_of, sides_ok, is_fits, Uploaded}
+use Rattle.store.specs.Slots.{area_of, sides_ok, is_fits, answered, Uploaded}
 use Rattle.state.specs.State.{most_payload}
 use Rattle.command.specs.declared.Setting.{Setting}
 use Rattle.execute.specs.Paints.{picture, paint_on, paints_on}
 use Rattle.command.specs.Command.{setting_words}
 use Rattle.execute.specs.Commands.{Load, wrong_length, of_length, set_by, settings_after, texture_verdict, count_verdict, rgba_of, clear_paints, clear_painted}
-use Rattle.execute.specs.Control.{room_verdict}
-use Rattle.execute.specs.Kept.{Shelf, shelf, shelved, room_on, put_on, kept_on, loaded_on}
+use Rattle.execute.specs.Control.{no_room, room_verdict}
+use Rattle.execute.specs.Kept.{Shelf, shelf, shelved, shelved_by, room_on, put_on, kept_on, loaded_on}
+
+-- a refusal, by what it says
+pub because-is : {e f : Refused} → e ≡ f → ◌≡◌ {A = Verdict} (Err e) (Err f)
+because-is h = ap (λ (e : Refused). Err e) h
 
 -- ---- those that set
 module _ (s : Settings) (x : Setting) (p : List ℕ) where
@@ -45,7 +51,7 @@ module _ (s : Settings) (x : Setting) (p : List ℕ) where
   pub set_as : length p ≡ setting_words x → (y : Setting) → x ≡ y → settings_after s x p ≡ set_by s y p
   set_as n y e = set-whole n ∙ ap (λ (z : Setting). set_by s z p) e
 
-  pub set_wrong : (length p ≡ setting_words x → ⊥) → settings_after s x p ≡ changed wrong_length s s
+  pub set_wrong : (length p ≡ setting_words x → ⊥) → settings_after s x p ≡ refused WrongLength 0
   unfolding settings_after
   set_wrong n = rw (ne_eqb (length p) (setting_words x) n)
 
@@ -55,7 +61,7 @@ unfolding texture_verdict
 texture_short p n = rw (lt-ltb (length p) 3 n)
 
 module _ (p : List ℕ) (n : 3 ≤ length p) where
-  pub width-zero : word_at p 1 ≡ 0 → texture_verdict p ≡ Refused OutOfRange 1
+  pub width-zero : word_at p 1 ≡ 0 → texture_verdict p ≡ refused OutOfRange 1
   unfolding texture_verdict
   width-zero a = rw (le-ltb (length p) 3 n, eq-eqb (word_at p 1) 0 a)
 
@@ -63,7 +69,7 @@ module _ (p : List ℕ) (n : 3 ≤ length p) where
     some_width : eqb (word_at p 1) 0 ≡ false
     some_width = ne_eqb (word_at p 1) 0 (λ e. omega arith)
 
-    pub height-zero : word_at p 2 ≡ 0 → texture_verdict p ≡ Refused OutOfRange 2
+    pub height-zero : word_at p 2 ≡ 0 → texture_verdict p ≡ refused OutOfRange 2
     unfolding texture_verdict
     height-zero b = rw (le-ltb (length p) 3 n, some_width, eq-eqb (word_at p 2) 0 b)
 
@@ -71,21 +77,21 @@ module _ (p : List ℕ) (n : 3 ≤ length p) where
       some_height : eqb (word_at p 2) 0 ≡ false
       some_height = ne_eqb (word_at p 2) 0 (λ e. omega arith)
 
-      pub width_large : 1024 < word_at p 1 → texture_verdict p ≡ Refused OutOfRange 1
+      pub width_large : 1024 < word_at p 1 → texture_verdict p ≡ refused OutOfRange 1
       unfolding texture_verdict
       width_large d = rw (le-ltb (length p) 3 n, some_width, some_height, lt-ltb 1024 (word_at p 1) d)
 
       module _ (d : word_at p 1 ≤ 1024) where
-        pub height_large : 1024 < word_at p 2 → texture_verdict p ≡ Refused OutOfRange 2
+        pub height_large : 1024 < word_at p 2 → texture_verdict p ≡ refused OutOfRange 2
         unfolding texture_verdict
         height_large e = rw (le-ltb (length p) 3 n, some_width, some_height, le-ltb 1024 (word_at p 1) d, lt-ltb 1024 (word_at p 2) e)
 
         module _ (e : word_at p 2 ≤ 1024) where
-          sides_left : texture_verdict p ≡ of_length (3 + area_of Texture (word_at p 1) (word_at p 2)) p Done wrong_length
+          sides_left : texture_verdict p ≡ of_length (3 + area_of Texture (word_at p 1) (word_at p 2)) p done wrong_length
           unfolding texture_verdict
           sides_left = rw (le-ltb (length p) 3 n, some_width, some_height, le-ltb 1024 (word_at p 1) d, le-ltb 1024 (word_at p 2) e)
 
-          pub texture_done : length p ≡ 3 + area_of Texture (word_at p 1) (word_at p 2) → texture_verdict p ≡ Done
+          pub texture_done : length p ≡ 3 + area_of Texture (word_at p 1) (word_at p 2) → texture_verdict p ≡ done
           texture_done l = sides_left ∙ rw (eq-eqb (length p) (3 + area_of Texture (word_at p 1) (word_at p 2)) l)
 
           pub texture_wrong : (length p ≡ 3 + area_of Texture (word_at p 1) (word_at p 2) → ⊥) → texture_verdict p ≡ wrong_length
@@ -97,16 +103,16 @@ unfolding count_verdict
 count_short p n = rw (lt-ltb (length p) 2 n)
 
 module _ (p : List ℕ) (n : 2 ≤ length p) where
-  pub count_zero : word_at p 1 ≡ 0 → count_verdict p ≡ Refused OutOfRange 1
+  pub count_zero : word_at p 1 ≡ 0 → count_verdict p ≡ refused OutOfRange 1
   unfolding count_verdict
   count_zero a = rw (le-ltb (length p) 2 n, eq-eqb (word_at p 1) 0 a)
 
   module _ (a : 0 < word_at p 1) where
-    count_left : count_verdict p ≡ of_length (2 + area_of Model (word_at p 1) 0) p Done wrong_length
+    count_left : count_verdict p ≡ of_length (2 + area_of Model (word_at p 1) 0) p done wrong_length
     unfolding count_verdict
     count_left = rw (le-ltb (length p) 2 n, ne_eqb (word_at p 1) 0 (λ e. omega arith))
 
-    pub count_done : length p ≡ 2 + area_of Model (word_at p 1) 0 → count_verdict p ≡ Done
+    pub count_done : length p ≡ 2 + area_of Model (word_at p 1) 0 → count_verdict p ≡ done
     count_done l = count_left ∙ rw (eq-eqb (length p) (2 + area_of Model (word_at p 1) 0) l)
 
     pub count_wrong : (length p ≡ 2 + area_of Model (word_at p 1) 0 → ⊥) → count_verdict p ≡ wrong_length
@@ -120,14 +126,14 @@ pub model_sides : (n : ℕ) → 0 < n → n ≤ 18724 → sides_ok Model n 0 ≡
 model_sides n a b = rw (lt-ltb 0 n a, le-leb n 18724 b)
 
 -- a refusal that was passed by, and an exact length that was met
-past : (t : Bool) (r : Reason) (i : ℕ) (v : Verdict) → cond t (Refused r i) v ≡ Done → (t ≡ false) × (v ≡ Done)
+past : (t : Bool) (r : Reason) (i : ℕ) (v : Verdict) → cond t (refused r i) v ≡ done → (t ≡ false) × (v ≡ done)
 past true r i v e = (cc, cc)
 past false r i v e = (refl, e)
 
-met : (n : ℕ) (p : List ℕ) → of_length n p Done wrong_length ≡ Done → length p ≡ n
+met : (n : ℕ) (p : List ℕ) → of_length n p done wrong_length ≡ done → length p ≡ n
 met n p e = eqb-true (length p) n (go (eqb (length p) n) e)
   where
-    go : (t : Bool) → cond t Done wrong_length ≡ Done → t ≡ true
+    go : (t : Bool) → cond t done wrong_length ≡ done → t ≡ true
     go true e = refl
     go false e = cc
 
@@ -140,7 +146,7 @@ pub record Passes (k : Kind) (w h m : ℕ) (p : List ℕ) : Type 0 where
   pub sides : sides_ok k w h ≡ true
   pub size : length (drop m p) ≡ area_of k w h
 
-pub texture_passes : (p : List ℕ) → texture_verdict p ≡ Done → Passes Texture (word_at p 1) (word_at p 2) 3 p
+pub texture_passes : (p : List ℕ) → texture_verdict p ≡ done → Passes Texture (word_at p 1) (word_at p 2) 3 p
 unfolding texture_verdict
 texture_passes p e =
     let one = past _ _ _ _ e in
@@ -156,7 +162,7 @@ texture_passes p e =
       size = omega (arith, length-drop 3 p);
     }
 
-pub count_passes : (p : List ℕ) → length p ≤ most_payload → count_verdict p ≡ Done → Passes Model (word_at p 1) 0 2 p
+pub count_passes : (p : List ℕ) → length p ≤ most_payload → count_verdict p ≡ done → Passes Model (word_at p 1) 0 2 p
 unfolding count_verdict
 count_passes p most e =
     let one = past _ _ _ _ e in
@@ -176,23 +182,36 @@ pub rest_size : {k : Kind} {w h m : ℕ} {p : List ℕ} → Passes k w h m p →
 rest_size {m = m} {p = p} e = ap length (rest_is p m) ∙ e.size
 
 -- ---- an upload that is kept
-module _ (k : Kind) (ss : List Slot) (store : List ℕ) (u : Whole) where
-  either : (b : Bool) (xs : List Slot) (ws : List ℕ) → shelf (cond b xs ss) (cond b ws store) ≡ cond b (shelf xs ws) (shelf ss store)
-  either true xs ws = refl
-  either false xs ws = refl
+-- what a store answers, as a command is refused for it
+abbrev pub refusing : {A : Type 0} → Result A NoRoom → Result A Refused
+refusing (Ok a) = Ok a
+refusing (Err why) = Err (no_room why)
 
-  pub kept-is : {r : Stored} {after : List ℕ} {v : Verdict} → Uploaded k ss store u r after → v ≡ room_verdict r.room → shelved v (shelf r.slots after) ≡ kept_on k (shelf ss store) u
+pub refused-for : {A : Type 0} (r : Result A NoRoom) (v : Result A Refused) → MatchResult r (λ a. v ≡ Ok a) (λ why. IsErrAnd v (λ e. e ≡ no_room why)) → v ≡ refusing r
+refused-for (Ok a) v h = h
+refused-for (Err why) v h =
+    let e = err_from_is_err_and v h in
+    rw (e.1, e.2)
+
+module _ (k : Kind) (ss : List Slot) (store : List ℕ) (u : Whole) where
+  pub kept-is : {r : Result (List Slot) NoRoom} {after : List ℕ} → Uploaded k ss store u r after → {v : Result (List Slot) Refused} → v ≡ refusing r → shelved_by ss v after ≡ kept_on k (shelf ss store) u
   unfolding kept_on
-  kept-is h e = rw (e, h.slots, h.words, h.answer) (ap (shelved (room_verdict (room_on k (shelf ss store) u))) (either (is_fits (room_on k (shelf ss store) u)) (put_on k (shelf ss store) u).slots (put_on k (shelf ss store) u).words))
+  kept-is h e = rw (e, h.answer, h.words) (by_room (room_on k (shelf ss store) u))
+    where
+      by_room : (r : Result ⊤ NoRoom)
+          → shelved_by ss (refusing (answered r (put_on k (shelf ss store) u).slots)) (cond (is_fits r) (put_on k (shelf ss store) u).words store)
+          ≡ shelved (room_verdict r) (cond (is_fits r) (put_on k (shelf ss store) u) (shelf ss store))
+      by_room (Ok u) = refl
+      by_room (Err why) = refl
 
 module _ (v : Verdict) (l : Load) (s : Shelf) where
-  pub loaded_done : v ≡ Done → loaded_on v l s ≡ kept_on l.kind s l.whole
+  pub loaded_done : v ≡ done → loaded_on v l s ≡ kept_on l.kind s l.whole
   unfolding loaded_on
   loaded_done e = rw e
 
-  pub loaded_refused : {w : Verdict} {r : Reason} {i : ℕ} → w ≡ v → w ≡ Refused r i → shelved w s ≡ loaded_on v l s
+  pub loaded_refused : {e : Refused} → v ≡ Err e → shelved_by s.slots (Err e) s.words ≡ loaded_on v l s
   unfolding loaded_on
-  loaded_refused e d = rw (← e, d)
+  loaded_refused e = rw e
 
 -- ---- 04: by its two flags
 pub clear-verdict : (p : List ℕ) → (clear_painted p).verdict ≡ at_most p 0 3

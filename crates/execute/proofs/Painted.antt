@@ -15,20 +15,19 @@ use Rattle.sprite.specs.Words.{fit_verdict, sprite_of, sprite_drawn}
 use Rattle.store.specs.Uploads.{Whole}
 use Rattle.stroke.specs.Strokes.{sheet, Stroke, stroke_on, strokes_on}
 use Rattle.decide.specs.Corners.{words_of}
-use Rattle.payload.specs.Words.{when_done}
-use Rattle.verdict.specs.declared.Verdict.{Verdict}
-use Rattle.verdict.specs.declared.Verdict.TheVariants.{Done, Refused}
+use Rattle.std.specs.Prelude.{Ok, Err}
+use Rattle.verdict.specs.Verdict.{Verdict, when_done}
 use Rattle.command.specs.declared.Draw.{Draw}
 use Rattle.execute.specs.Paints.{Picture, picture, seen_of, with_seen, sprite, stroked, paint_on, paints_on}
 use Rattle.command.specs.Command.{draw_words}
-use Rattle.execute.specs.Commands.{Look, wrong_length, refused, sprite_paints, flat_painted, drawn_by, painted_by}
+use Rattle.execute.specs.Commands.{Look, wrong_length, blank, sprite_paints, flat_painted, drawn_by, painted_by}
 
 module _ (look : Look) (s : Settings) (d : Draw) (p : List ℕ) where
   pub painted-whole : length p ≡ draw_words d → painted_by look s d p ≡ drawn_by look s d p
   unfolding painted_by
   painted-whole n = rw (eq-eqb (length p) (draw_words d) n)
 
-  pub painted_short : (length p ≡ draw_words d → ⊥) → painted_by look s d p ≡ refused wrong_length
+  pub painted_short : (length p ≡ draw_words d → ⊥) → painted_by look s d p ≡ blank wrong_length
   unfolding painted_by
   painted_short n = rw (ne_eqb (length p) (draw_words d) n)
 
@@ -71,8 +70,8 @@ sprite-painted p (some u) P P' D F e = rw e (go (fit_verdict p u.wide u.high))
   where
     go : (v : Verdict)
         → picture (when_done v (sprite_plane (sprite_of p u.wide) u.words P) P) D F ≡ paints_on (when_done v (sprite (sprite_of p u.wide) u.words ∷ []) []) (picture P D F)
-    go Done = refl
-    go (Refused r i) = refl
+    go (Ok u) = refl
+    go (Err why) = refl
 
 -- ---- a flat triangle
 pub flat-painted : (p : List ℕ) (P P' : List ℕ) (D D' : List ℤ) (F : List Float) → D' ≡ flat_depths p D → P' ≡ flat_plane p D P
@@ -81,5 +80,5 @@ unfolding flat_plane flat_depths flat_painted paints_on paint_on
 flat-painted p P P' D D' F d q = rw (d, q) (go (flat_verdict p) refl)
   where
     go : (v : Verdict) → flat_verdict p ≡ v → picture (flat_plane p D P) (flat_depths p D) F ≡ paints_on (flat_painted p).paints (picture P D F)
-    go Done e = rw e
-    go (Refused r i) e = rw e
+    go (Ok u) e = rw e
+    go (Err why) e = rw e

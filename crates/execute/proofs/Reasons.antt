@@ -9,17 +9,18 @@ use lib.Dec.{eqb, leb, ltb}
 use lib.Ieee.{Float}
 use lib.Ieee.Scale.{finite}
 use lib.ListN.{length, drop, get_or}
-use Rattle.vector.specs.declared.normal.Inverse.{Inverse}
-use Rattle.vector.specs.declared.normal.Inverse.TheVariants.{Of, Singular}
+use Rattle.std.specs.Prelude.{Some, None, Result, Ok, Err}
+use Rattle.std.specs.Prelude as std
+use Rattle.vector.specs.declared.normal.Matrix3.{Matrix3}
 use Rattle.clip.specs.declared.vertex.ClipVertex.{ClipVertex}
 use Rattle.verdict.specs.declared.Reason.TheVariants.{OutOfRange, NotFinite, NotHeld, NotInvertible}
-use Rattle.verdict.specs.declared.Verdict.{Verdict}
-use Rattle.verdict.specs.declared.Verdict.TheVariants.{Done, Refused}
+use Rattle.verdict.specs.Verdict.{Verdict, refused}
+use Rattle.verdict.specs.Verdict as verdict
+use Rattle.verdict.specs.declared.Refused.{Refused}
 use Rattle.verdict.proofs.First.{Low}
-use Rattle.payload.specs.Words.{and_then, word_at, float_at, at_most, finite_from}
+use Rattle.payload.specs.Words.{and_then, passed, word_at, float_at, at_most, finite_from}
 use Rattle.settings.specs.declared.Settings.{Settings}
-use Rattle.settings.specs.declared.Changed.{Changed}
-use Rattle.settings.specs.Settings.{changed, mode_verdict, matrix_verdict, light_verdict}
+use Rattle.settings.specs.Settings.{mode_verdict, matrix_verdict, light_verdict}
 use Rattle.store.specs.Uploads.{Whole}
 use Rattle.flat.specs.Words.{signed_at, in_reach, first_out, flat_verdict}
 use Rattle.sprite.specs.Words.{fit_verdict, sprite_verdict}
@@ -32,16 +33,16 @@ use Rattle.command.specs.declared.Setting.TheVariants as setting
 use Rattle.command.specs.declared.Draw.{Draw}
 use Rattle.command.specs.declared.Draw.TheVariants as draw
 use Rattle.command.specs.declared.Command.{Command}
-use Rattle.command.specs.declared.Command.TheVariants.{Sets, Loads, Paints, Unknown}
+use Rattle.command.specs.declared.Command.TheVariants.{Sets, Loads, Paints}
 use Rattle.command.specs.Command.{command_of, setting_words, draw_words}
-use Rattle.execute.specs.Commands.{Look, Painted, refused, unknown, wrong_length, set_by, settings_after, texture_verdict, count_verdict, clear_painted, sprite_painted, flat_painted, transformed_painted, textured_painted, model_painted, drawn_by, painted_by, told_as, told}
+use Rattle.execute.specs.Commands.{Look, Painted, blank, unknown, wrong_length, verdict_by, set_by, settings_after, texture_verdict, count_verdict, clear_painted, sprite_painted, flat_painted, transformed_painted, textured_painted, model_painted, drawn_by, painted_by, told_as, told}
 use Rattle.execute.proofs.Told.{told_as_lem}
 use Rattle.laws.proofs.Bools.{either}
 
-module _ (Q : Verdict → Type 0) (done : Q Done) (range : (i : ℕ) → i ≤ 28 → Q (Refused OutOfRange i)) (float : (i : ℕ) → i ≤ 28 → Q (Refused NotFinite i)) (matrix : Q (Refused NotInvertible 0)) where
+module _ (Q : Verdict → Type 0) (done : Q verdict.done) (range : (i : ℕ) → i ≤ 28 → Q (refused OutOfRange i)) (float : (i : ℕ) → i ≤ 28 → Q (refused NotFinite i)) (matrix : Q (refused NotInvertible 0)) where
   then_so : (v w : Verdict) → Q v → Q w → Q (and_then v w)
-  then_so Done w a b = b
-  then_so (Refused r i) w a b = a
+  then_so (Ok u) w a b = b
+  then_so (Err e) w a b = a
 
   most_so : (p : List ℕ) (i most : ℕ) → i ≤ 28 → Q (at_most p i most)
   most_so p i most h = either Q (leb (word_at p i) most) _ _ done (range i h)
@@ -54,9 +55,9 @@ module _ (Q : Verdict → Type 0) (done : Q Done) (range : (i : ℕ) → i ≤ 2
   each_so : (check : ℕ → Verdict) → Q (check 0) → Q (check 1) → Q (check 2) → Q (each_of check)
   each_so check a b c = then_so (check 0) _ a (then_so (check 1) _ b c)
 
-  invertible_so : (x : Inverse) → Q (invertible_of x)
-  invertible_so (Of m) = done
-  invertible_so Singular = matrix
+  invertible_so : (x : std.Option Matrix3) → Q (invertible_of x)
+  invertible_so (Some m) = done
+  invertible_so None = matrix
 
   reached_so : (v : ClipVertex) (o : ℕ) → o ≤ 28 → Q (reached_of v o)
   reached_so v o h = either Q (finite4 v.position) _ _ done (float o h)
@@ -106,31 +107,35 @@ module _ (Q : Verdict → Type 0) (done : Q Done) (range : (i : ℕ) → i ≤ 2
   pub fit_so : (p : List ℕ) (w h : ℕ) → Q (fit_verdict p w h)
   unfolding fit_verdict
   fit_so p w h =
-      let wide : Q (Refused OutOfRange 3) = range 3 (omega arith) in
-      let high : Q (Refused OutOfRange 4) = range 4 (omega arith) in
+      let wide : Q (refused OutOfRange 3) = range 3 (omega arith) in
+      let high : Q (refused OutOfRange 4) = range 4 (omega arith) in
       either Q (eqb (get_or p 3 0) 0) _ _ wide
       (either Q (eqb (get_or p 4 0) 0) _ _ high
       (either Q (leb (get_or p 1 0 + get_or p 3 0) w) _ _
       (either Q (leb (get_or p 2 0 + get_or p 4 0) h) _ _ (out_so p 5 (6 ∷ []) (omega arith) (out_so p 6 [] (omega arith) done)) high) wide))
 
-  module _ (long : Q wrong_length) (no_such : Q unknown) (held : Q (Refused NotHeld 0)) where
+  module _ (long : Q wrong_length) (no_such : Q unknown) (held : Q (refused NotHeld 0)) where
     -- ---- those that set
-    by_so : (s : Settings) (x : Setting) (p : List ℕ) → Q (set_by s x p).verdict
-    unfolding mode_verdict matrix_verdict light_verdict
-    by_so s setting.Mode p = then_so (at_most p 0 1) _ (most_so p 0 1 (omega arith)) (most_so p 1 1 (omega arith))
-    by_so s setting.Matrix p = then_so (at_most p 0 2) _ (most_so p 0 2 (omega arith)) (from_so p 1 16 (omega arith))
-    by_so s setting.Light p = then_so (at_most p 0 7) _ (most_so p 0 7 (omega arith)) (then_so (at_most p 1 1) _ (most_so p 1 1 (omega arith)) (from_so p 2 15 (omega arith)))
+    passed_so : {A : Type 0} (v : Verdict) (a : A) → Q v → Q (verdict_by (passed v a))
+    passed_so (Ok u) a h = h
+    passed_so (Err e) a h = h
 
-    set_so : (s : Settings) (x : Setting) (p : List ℕ) → Q (settings_after s x p).verdict
+    by_so : (s : Settings) (x : Setting) (p : List ℕ) → Q (verdict_by (set_by s x p))
+    unfolding mode_verdict matrix_verdict light_verdict
+    by_so s setting.Mode p = passed_so _ _ (then_so (at_most p 0 1) _ (most_so p 0 1 (omega arith)) (most_so p 1 1 (omega arith)))
+    by_so s setting.Matrix p = passed_so _ _ (then_so (at_most p 0 2) _ (most_so p 0 2 (omega arith)) (from_so p 1 16 (omega arith)))
+    by_so s setting.Light p = passed_so _ _ (then_so (at_most p 0 7) _ (most_so p 0 7 (omega arith)) (then_so (at_most p 1 1) _ (most_so p 1 1 (omega arith)) (from_so p 2 15 (omega arith))))
+
+    set_so : (s : Settings) (x : Setting) (p : List ℕ) → Q (verdict_by (settings_after s x p))
     unfolding settings_after
-    set_so s x p = either (λ (c : Changed). Q c.verdict) (eqb (length p) (setting_words x)) (set_by s x p) (changed wrong_length s s) (by_so s x p) long
+    set_so s x p = either (λ (c : Result Settings Refused). Q (verdict_by c)) (eqb (length p) (setting_words x)) (set_by s x p) (Err _) (by_so s x p) long
 
     -- ---- 17 and 1A, before room is asked
     texture_so : (p : List ℕ) → Q (texture_verdict p)
     unfolding texture_verdict
     texture_so p =
-        let wide : Q (Refused OutOfRange 1) = range 1 (omega arith) in
-        let high : Q (Refused OutOfRange 2) = range 2 (omega arith) in
+        let wide : Q (refused OutOfRange 1) = range 1 (omega arith) in
+        let high : Q (refused OutOfRange 2) = range 2 (omega arith) in
         either Q (ltb (length p) 3) _ _ long
         (either Q (eqb (word_at p 1) 0) _ _ wide
         (either Q (eqb (word_at p 2) 0) _ _ high (either Q (ltb 1024 (word_at p 1)) _ _ wide (either Q (ltb 1024 (word_at p 2)) _ _ high (either Q (eqb (length p) _) _ _ done long)))))
@@ -171,15 +176,15 @@ module _ (Q : Verdict → Type 0) (done : Q Done) (range : (i : ℕ) → i ≤ 2
 
     painted_so : (look : Look) (s : Settings) (d : Draw) (p : List ℕ) → Q (painted_by look s d p).verdict
     unfolding painted_by
-    painted_so look s d p = either (λ (a : Painted). Q a.verdict) (eqb (length p) (draw_words d)) (drawn_by look s d p) (refused wrong_length) (drawn_so look s d p) long
+    painted_so look s d p = either (λ (a : Painted). Q a.verdict) (eqb (length p) (draw_words d)) (drawn_by look s d p) (blank wrong_length) (drawn_so look s d p) long
 
     -- ---- every command, before room is asked
-    as_so : (look : Look) (s : Settings) (c : Command) (p : List ℕ) → Q (told_as look s c p).verdict
-    as_so look s (Sets x) p = set_so s x p
-    as_so look s (Loads Texture) p = texture_so p
-    as_so look s (Loads Model) p = count_so p
-    as_so look s (Paints d) p = painted_so look s d p
-    as_so look s Unknown p = no_such
+    as_so : (look : Look) (s : Settings) (c : std.Option Command) (p : List ℕ) → Q (told_as look s c p).verdict
+    as_so look s (Some (Sets x)) p = set_so s x p
+    as_so look s (Some (Loads Texture)) p = texture_so p
+    as_so look s (Some (Loads Model)) p = count_so p
+    as_so look s (Some (Paints d)) p = painted_so look s d p
+    as_so look s None p = no_such
 
     pub told_so : (look : Look) (s : Settings) (op : ℕ) (p : List ℕ) → Q (told look s op p).verdict
     told_so look s op p = rw (told_as_lem look s op p refl) (as_so look s (command_of op) p)

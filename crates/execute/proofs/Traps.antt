@@ -6,15 +6,15 @@ use native.Mathlib.Omega.{arith}
 use borrow.Author.Tests.{ne_eqb, le-ltb}
 use lib.ListN.{length}
 use Rattle.verdict.specs.declared.Reason.TheVariants.{OutOfRange}
-use Rattle.verdict.specs.declared.Verdict.TheVariants.{Refused}
+use Rattle.verdict.specs.Verdict.{refused}
 use Rattle.execute.specs.Commands.{wrong_length, texture_verdict, count_verdict}
 
 -- width 0, height 0, width above 1024, height above 1024, in this order: 2000 by 0 points at the height
-pub height-zero-first : (number : ℕ) → texture_verdict (number ∷ 2000 ∷ 0 ∷ []) ≡ Refused OutOfRange 2
+pub height-zero-first : (number : ℕ) → texture_verdict (number ∷ 2000 ∷ 0 ∷ []) ≡ refused OutOfRange 2
 unfolding texture_verdict
 height-zero-first number = refl
 
-pub width_before_height : (number : ℕ) → texture_verdict (number ∷ 2000 ∷ 2000 ∷ []) ≡ Refused OutOfRange 1
+pub width_before_height : (number : ℕ) → texture_verdict (number ∷ 2000 ∷ 2000 ∷ []) ≡ refused OutOfRange 1
 unfolding texture_verdict
 width_before_height number = refl
 

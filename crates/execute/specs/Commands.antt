@@ -1,18 +1,17 @@
 -- The commands: what a payload says. What an opcode is, is in the crate `command`. Section 3 of docs/RULES.md; `execute` of the original. No definition here sees the picture (rule 3.17). Definitions only.
-use Rattle.std.specs.Prelude.{ℕ, ◌+◌, ◌/◌, ◌%◌, Bool, cond, List, [], ◌∷◌, ◌++◌, map, eqb, ltb, length, drop}
+use Rattle.std.specs.Prelude.{ℕ, ◌+◌, ◌/◌, ◌%◌, Bool, cond, List, [], ◌∷◌, ◌++◌, map, eqb, ltb, length, drop, Some, None, Result, Ok, Err}
+use Rattle.std.specs.Prelude as std
 use Rattle.std.proofs.Math.Option.{Option, none, some}
 use Rattle.screen.specs.declared.plane.Rgba.{Rgba}
 use Rattle.settings.specs.declared.Settings.{Settings}
-use Rattle.settings.specs.declared.Changed.{Changed}
-use Rattle.settings.specs.Settings.{changed, mode_verdict, with_mode, matrix_verdict, with_matrix, light_verdict, with_light}
+use Rattle.settings.specs.Settings.{mode_verdict, with_mode, matrix_verdict, with_matrix, light_verdict, with_light}
 use Rattle.store.specs.declared.Kind.{Kind}
 use Rattle.store.specs.declared.Kind.TheVariants.{Texture, Model}
 use Rattle.store.specs.Uploads.{Whole}
 use Rattle.store.specs.Slots.{area_of, whole_of}
 use Rattle.verdict.specs.declared.Reason.TheVariants.{UnknownOpcode, WrongLength, OutOfRange}
-use Rattle.verdict.specs.declared.Verdict.{Verdict}
-use Rattle.verdict.specs.declared.Verdict.TheVariants.{Done, Refused}
-use Rattle.payload.specs.Words.{when_done, word_at, at_most}
+use Rattle.verdict.specs.declared.Refused.{Refused}
+use Rattle.payload.specs.Words.{Verdict, refused, done, passed, when_done, word_at, at_most}
 use Rattle.flat.specs.Words.{flat_verdict, tri_of}
 use Rattle.sprite.specs.Words.{fit_verdict, sprite_of, sprite_verdict}
 use Rattle.stroke.specs.Strokes.{Stroke}
@@ -24,7 +23,7 @@ use Rattle.command.specs.declared.Setting.TheVariants as setting
 use Rattle.command.specs.declared.Draw.{Draw}
 use Rattle.command.specs.declared.Draw.TheVariants as draw
 use Rattle.command.specs.declared.Command.{Command}
-use Rattle.command.specs.declared.Command.TheVariants.{Sets, Loads, Paints, Unknown}
+use Rattle.command.specs.declared.Command.TheVariants.{Sets, Loads, Paints}
 use Rattle.command.specs.Command.{command_of, setting_words, draw_words}
 use Rattle.execute.specs.Paints.{Paint, fill, far, sprite, flat, stroked}
 
@@ -49,23 +48,32 @@ tells v s ps = record { verdict = v; settings = s; paints = ps; load = none }
 
 -- reasons 3 and 4
 abbrev pub unknown : Verdict
-unknown = Refused UnknownOpcode 0
+unknown = refused UnknownOpcode 0
 
 abbrev pub wrong_length : Verdict
-wrong_length = Refused WrongLength 0
+wrong_length = refused WrongLength 0
+
+-- what a call that answers a value came to; and the value, or the old one if it is refused
+abbrev pub verdict_by : {A : Type 0} → Result A Refused → Verdict
+verdict_by (Ok a) = done
+verdict_by (Err e) = Err e
+
+abbrev pub value_or : {A : Type 0} → A → Result A Refused → A
+value_or old (Ok a) = a
+value_or old (Err e) = old
 
 -- a if the payload has exactly n words, else b
 abbrev pub of_length : {A : Type 0} → ℕ → List ℕ → A → A → A
 of_length n p a b = cond (eqb (length p) n) a b
 
 -- ---- those that set: 01, 2 words: (0, 0..1) shading mode; (1, 0..1) lighting. 02, 17 words: matrix 0..2 and 16 floats. 15, 17 words: light 0..7, switch 0..1, 15 floats
-abbrev pub set_by : Settings → Setting → List ℕ → Changed
-set_by s setting.Mode p = changed (mode_verdict p) (with_mode s p) s
-set_by s setting.Matrix p = changed (matrix_verdict p) (with_matrix s p) s
-set_by s setting.Light p = changed (light_verdict p) (with_light s p) s
+abbrev pub set_by : Settings → Setting → List ℕ → Result Settings Refused
+set_by s setting.Mode p = passed (mode_verdict p) (with_mode s p)
+set_by s setting.Matrix p = passed (matrix_verdict p) (with_matrix s p)
+set_by s setting.Light p = passed (light_verdict p) (with_light s p)
 
-unfoldable pub settings_after : Settings → Setting → List ℕ → Changed
-settings_after s x p = of_length (setting_words x) p (set_by s x p) (changed wrong_length s s)
+unfoldable pub settings_after : Settings → Setting → List ℕ → Result Settings Refused
+settings_after s x p = of_length (setting_words x) p (set_by s x p) (refused WrongLength 0)
 
 -- ---- those that load
 -- rule 3.13: 17 tests the least length, then width 0, height 0, width above 1024, height above 1024, then the exact length
@@ -74,18 +82,18 @@ texture_verdict p =
     let w = word_at p 1 in
     let h = word_at p 2 in
     cond (ltb (length p) 3) wrong_length
-    (cond (eqb w 0) (Refused OutOfRange 1)
-    (cond (eqb h 0) (Refused OutOfRange 2)
-    (cond (ltb 1024 w) (Refused OutOfRange 1)
-    (cond (ltb 1024 h) (Refused OutOfRange 2)
-    (of_length (3 + area_of Texture w h) p Done wrong_length)))))
+    (cond (eqb w 0) (refused OutOfRange 1)
+    (cond (eqb h 0) (refused OutOfRange 2)
+    (cond (ltb 1024 w) (refused OutOfRange 1)
+    (cond (ltb 1024 h) (refused OutOfRange 2)
+    (of_length (3 + area_of Texture w h) p done wrong_length)))))
 
 -- rule 3.14: 1A tests the least length, then its count, then the exact length
 unfoldable pub count_verdict : List ℕ → Verdict
 count_verdict p =
     cond (ltb (length p) 2) wrong_length
-    (cond (eqb (word_at p 1) 0) (Refused OutOfRange 1)
-    (of_length (2 + area_of Model (word_at p 1) 0) p Done wrong_length))
+    (cond (eqb (word_at p 1) 0) (refused OutOfRange 1)
+    (of_length (2 + area_of Model (word_at p 1) 0) p done wrong_length))
 
 abbrev pub texture_in : List ℕ → Load
 texture_in p = record { kind = Texture; whole = whole_of (word_at p 0) (word_at p 1) (word_at p 2) (drop 3 p) }
@@ -108,8 +116,8 @@ pub record Painted : Type 0 where
 abbrev pub painted : Verdict → List Paint → Painted
 painted v ps = record { verdict = v; paints = ps }
 
-abbrev pub refused : Verdict → Painted
-refused v = painted v []
+abbrev pub blank : Verdict → Painted
+blank v = painted v []
 
 -- `p[1].to_be_bytes()`
 unfoldable pub rgba_of : ℕ → Rgba
@@ -162,21 +170,21 @@ drawn_by look s (draw.Textured normal) p = textured_painted look s normal p
 drawn_by look s draw.Model p = model_painted look s p
 
 unfoldable pub painted_by : Look → Settings → Draw → List ℕ → Painted
-painted_by look s d p = of_length (draw_words d) p (drawn_by look s d p) (refused wrong_length)
+painted_by look s d p = of_length (draw_words d) p (drawn_by look s d p) (blank wrong_length)
 
 -- ---- `execute`
 abbrev pub told_by : Settings → Painted → Told
 told_by s a = tells a.verdict s a.paints
 
-abbrev pub told_of : Changed → Told
-told_of c = tells c.verdict c.settings []
+abbrev pub told_of : Settings → Result Settings Refused → Told
+told_of s r = tells (verdict_by r) (value_or s r) []
 
 -- rule 3.1: any other opcode is refused
-abbrev pub told_as : Look → Settings → Command → List ℕ → Told
-told_as look s (Sets x) p = told_of (settings_after s x p)
-told_as look s (Loads k) p = load_told s k p
-told_as look s (Paints d) p = told_by s (painted_by look s d p)
-told_as look s Unknown p = tells unknown s []
+abbrev pub told_as : Look → Settings → std.Option Command → List ℕ → Told
+told_as look s (Some (Sets x)) p = told_of s (settings_after s x p)
+told_as look s (Some (Loads k)) p = load_told s k p
+told_as look s (Some (Paints d)) p = told_by s (painted_by look s d p)
+told_as look s None p = tells unknown s []
 
 unfoldable pub told : Look → Settings → ℕ → List ℕ → Told
 told look s op p = told_as look s (command_of op) p

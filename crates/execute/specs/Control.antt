@@ -1,14 +1,13 @@
 -- Control: what the words so far have left, except the picture; and what a command makes of it, with any way of keeping uploads. `Kept.antt` has one way, slots over lent words. That of the plain machine, a whole history, is another. The original, `execute`. Definitions only.
-use Rattle.std.specs.Prelude.{ℕ, cond, List}
+use Rattle.std.specs.Prelude.{ℕ, cond, List, Result, Ok, Err, ⊤}
 use Rattle.std.proofs.Math.Option.{Option, none, some}
-use Rattle.verdict.specs.Verdict.{noted_of}
+use Rattle.verdict.specs.Verdict.{Verdict, because, done, noted_of}
 use Rattle.verdict.specs.declared.Notes.{Notes}
 use Rattle.verdict.specs.declared.Reason.TheVariants as reason
-use Rattle.verdict.specs.declared.Verdict.{Verdict}
-use Rattle.verdict.specs.declared.Verdict.TheVariants.{Done, Refused}
+use Rattle.verdict.specs.declared.Refused.{Refused}
 use Rattle.settings.specs.declared.Settings.{Settings}
-use Rattle.store.specs.declared.Room.{Room}
-use Rattle.store.specs.declared.Room.TheVariants.{Fits, NoSlot, NoWords}
+use Rattle.store.specs.declared.NoRoom.{NoRoom}
+use Rattle.store.specs.declared.NoRoom.TheVariants.{NoSlot, NoWords}
 use Rattle.store.specs.Slots.{is_fits}
 use Rattle.execute.specs.Paints.{Paint, Picture, paints_on}
 use Rattle.execute.specs.Commands as commands
@@ -17,7 +16,7 @@ use Rattle.execute.specs.Commands.{Look, Load, Told}
 -- a way of keeping uploads, and the payload of the command begun. `room` is asked for uploads that passed their checks, and `put` is used for those that have room
 pub record Keep (X : Type 0) : Type 0 where
   pub look : X → Look
-  pub room : X → Load → Room
+  pub room : X → Load → Result ⊤ NoRoom
   pub put : X → Load → X
   pub payload : X → List ℕ
   pub add : ℕ → X → X
@@ -45,10 +44,13 @@ abbrev pub stepped : {X : Type 0} → Step X → Picture → Seen X
 stepped s p = record { control = s.control; picture = paints_on s.paints p }
 
 -- rule 3.16: reasons 9 and 10
-abbrev pub room_verdict : Room → Verdict
-room_verdict Fits = Done
-room_verdict NoSlot = Refused reason.NoSlot 0
-room_verdict NoWords = Refused reason.NoWords 0
+abbrev pub no_room : NoRoom → Refused
+no_room NoSlot = because reason.NoSlot 0
+no_room NoWords = because reason.NoWords 0
+
+abbrev pub room_verdict : Result ⊤ NoRoom → Verdict
+room_verdict (Ok u) = done
+room_verdict (Err why) = Err (no_room why)
 
 module _ {X : Type 0} (K : Keep X) where
   -- the verdict of a command, and the uploads after it: one that passed its checks is kept if it has room

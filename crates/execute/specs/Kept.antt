@@ -1,18 +1,17 @@
 -- The machine as it is: uploads in slots over lent words, a payload in the lent command area; and what a call is lent, as one machine (rule 1.3). Definitions only.
-use Rattle.std.specs.Prelude.{ℕ, ◌+◌, ◌≤◌, ◌≡◌, true, cond, List, ℤ, length, take, set, Float}
-use Rattle.verdict.specs.Verdict.{noted_of}
-use Rattle.verdict.specs.declared.Verdict.{Verdict}
-use Rattle.payload.specs.Words.{when_done}
+use Rattle.std.specs.Prelude.{ℕ, ◌+◌, ◌≤◌, ◌≡◌, true, cond, List, ℤ, length, take, set, Float, Result, ⊤}
+use Rattle.verdict.specs.Verdict.{Verdict, when_done, noted_of}
+use Rattle.verdict.specs.declared.Refused.{Refused}
 use Rattle.settings.specs.declared.Settings.{Settings}
 use Rattle.store.specs.declared.Slot.{Slot}
 use Rattle.store.specs.declared.Kind.{Kind}
 use Rattle.store.specs.declared.Kind.TheVariants.{Texture, Model}
-use Rattle.store.specs.declared.Room.{Room}
+use Rattle.store.specs.declared.NoRoom.{NoRoom}
 use Rattle.store.specs.Uploads.{Whole, card, room, most_words}
 use Rattle.store.specs.Slots.{told, view, look_in, slots_after, words_after, slots_ok, is_fits}
 use Rattle.state.specs.declared.State.{State}
 use Rattle.execute.specs.Paints.{picture}
-use Rattle.execute.specs.Commands.{Look, Load}
+use Rattle.execute.specs.Commands.{Look, Load, verdict_by, value_or}
 use Rattle.execute.specs.Control.{Keep, Control, Seen, room_verdict}
 
 -- one store: its slots, and the words lent for it
@@ -23,7 +22,7 @@ pub record Shelf : Type 0 where
 abbrev pub shelf : List Slot → List ℕ → Shelf
 shelf ss ws = record { slots = ss; words = ws }
 
-abbrev pub room_on : Kind → Shelf → Whole → Room
+abbrev pub room_on : Kind → Shelf → Whole → Result ⊤ NoRoom
 room_on k s u = room (length s.words) (told k s.slots) u.number (length u.words)
 
 abbrev pub put_on : Kind → Shelf → Whole → Shelf
@@ -36,6 +35,10 @@ pub record Shelved : Type 0 where
 
 abbrev pub shelved : Verdict → Shelf → Shelved
 shelved v s = record { verdict = v; shelf = s }
+
+-- the same, by what an upload answers, its store's slots before it and its store's words after it
+abbrev pub shelved_by : List Slot → Result (List Slot) Refused → List ℕ → Shelved
+shelved_by ss r ws = shelved (verdict_by r) (shelf (value_or ss r) ws)
 
 -- for an upload that passed its checks, and for one whose checks came to v
 unfoldable pub kept_on : Kind → Shelf → Whole → Shelved

@@ -1,13 +1,13 @@
 // 04: flag 1 fills the plane, flag 2 refills both depths.
 ghost use Rattle.std.specs.Prelude.{◌≡◌, length};
 ghost use Rattle.screen.specs.Plane.{plane_bytes};
-ghost use Rattle.screen.specs.Depths.{far_ints, far_floats};
 ghost use Rattle.execute.specs.Paints.{picture, paints_on};
 ghost use Rattle.execute.specs.Commands.{rgba_of, clear_painted};
 
 use screen::plane::Rgba;
 use verdict::Verdict;
 
+#[tactic(auto, unfolding(crate::specs::Commands::rgba_of))]
 fn rgba_of(word: u32) -> Rgba
     ensures { result ≡ rgba_of word }
 {
@@ -19,14 +19,6 @@ fn rgba_of(word: u32) -> Rgba
     }
 }
 
-fn refill(depth: &mut [i32], depth_f32: &mut [f32])
-    ensures depth_after { depth.new ≡ far_ints (length depth.old) }
-    ensures depth_f32_after { depth_f32.new ≡ far_floats (length depth_f32.old) }
-{
-    screen::depths::refill_ints(depth);
-    screen::depths::refill_floats(depth_f32);
-}
-
 // Flags beyond 3 still clear, and are then refused.
 pub fn clear(plane: &mut [u8], depth: &mut [i32], depth_f32: &mut [f32], p: &[u32]) -> Verdict
     requires plane_len { length plane.old ≡ plane_bytes }
@@ -35,16 +27,11 @@ pub fn clear(plane: &mut [u8], depth: &mut [i32], depth_f32: &mut [f32], p: &[u3
     ensures depth_f32_after { picture plane.new depth.new depth_f32.new ≡ paints_on (clear_painted p.now).paints (picture plane.old depth.old depth_f32.old) }
 {
     let flags = p[0];
-    let verdict = payload::at_most(p, 0, 3);
     if flags % 2 == 1 {
         screen::plane::fill(plane, rgba_of(p[1]));
-        if flags / 2 % 2 == 1 {
-            refill(depth, depth_f32);
-        }
-        return verdict;
     }
     if flags / 2 % 2 == 1 {
-        refill(depth, depth_f32);
+        screen::depths::refill(depth, depth_f32);
     }
-    verdict
+    payload::at_most(p, 0, 3)
 }

@@ -7,7 +7,7 @@ pub mod paint;
 pub mod set;
 pub mod upload;
 
-ghost use Rattle.std.specs.Prelude.{◌≡◌, List, ℕ, ◌≤◌, length};
+ghost use Rattle.std.specs.Prelude.{◌≡◌, List, ℕ, ◌≤◌, length, Some};
 ghost use Rattle.store.specs.declared.Kind.TheVariants.{Texture, Model};
 ghost use Rattle.state.specs.State.{most_payload};
 ghost use Rattle.command.specs.declared.Command.TheVariants.{Sets, Loads};
@@ -16,47 +16,35 @@ ghost use Rattle.execute.specs.Control as control;
 ghost use Rattle.execute.specs.Kept.{Formed, as_box, control_of, ended_state};
 
 use command::Setting;
-use settings::Settings;
 use state::State;
-use store::{Kind, SLOTS, Slot};
+use store::Kind;
 use verdict::Verdict;
 
 // The state after a command: no command is begun any more, and what was refused is noted.
-fn ended(
-    state: State,
-    settings: Settings,
-    textures: [Slot; SLOTS],
-    models: [Slot; SLOTS],
-    verdict: Verdict,
-) -> State
-    ensures { result ≡ ended_state state settings textures models verdict }
+fn ended(state: State, verdict: Verdict) -> State
+    ensures { result ≡ ended_state state state.settings state.textures state.models verdict }
 {
-    let notes = state.notes;
+    let notes = verdict::noted(state.notes, state.opcode, verdict);
     State {
-        settings,
-        textures,
-        models,
         opcode: 0,
         gathered: 0,
         wanted: 0,
-        notes: verdict::noted(notes, state.opcode, verdict),
+        notes,
+        ..state
     }
 }
 
 // The payload is the first `gathered` words of the command area. T and M, the stores' words, stay.
 pub fn after_set(setting: Setting, state: State, command: &[u32]) -> State
-    requires opcode_value { command_of state.opcode ≡ Sets setting }
+    requires opcode_value { command_of state.opcode ≡ Some (Sets setting) }
     requires gathered_in_bounds { state.gathered ≤ length command.now }
     ensures { (T M : List ℕ) → control_of result command.now T M ≡ (control.execute as_box (control_of state command.now T M)).control }
 {
-    let n = state.gathered as usize;
-    let s = state.settings;
-    let t = state.textures;
-    let m = state.models;
-    let c = set::set(setting, s, &command[..n]);
-    let after = c.settings;
-    let verdict = c.verdict;
-    ended(state, after, t, m, verdict)
+    let p = &command[..state.gathered as usize];
+    match set::set(setting, state.settings, p) {
+        Ok(settings) => ended(State { settings, ..state }, Ok(())),
+        Err(refused) => ended(state, Err(refused)),
+    }
 }
 
 pub fn after_load(
@@ -66,29 +54,34 @@ pub fn after_load(
     textures: &mut [u32],
     models: &mut [u32],
 ) -> State
-    requires opcode_value { command_of state.opcode ≡ Loads kind }
+    requires opcode_value { command_of state.opcode ≡ Some (Loads kind) }
     requires gathered_in_bounds { state.gathered ≤ length command.now }
     requires command_len { length command.now ≡ most_payload }
     requires formed { Formed Texture state.textures (length textures.old) }
     requires formed_2 { Formed Model state.models (length models.old) }
     ensures { control_of result command.now textures.new models.new ≡ (control.execute as_box (control_of state command.now textures.old models.old)).control }
 {
-    let n = state.gathered as usize;
-    let s = state.settings;
-    let t = state.textures;
-    let m = state.models;
+    let p = &command[..state.gathered as usize];
     match kind {
-        Kind::Texture => {
-            let k = upload::upload_texture(t, textures, &command[..n]);
-            let slots = k.slots;
-            let verdict = k.verdict;
-            ended(state, s, slots, m, verdict)
-        }
-        Kind::Model => {
-            let k = upload::upload_model(m, models, &command[..n]);
-            let slots = k.slots;
-            let verdict = k.verdict;
-            ended(state, s, t, slots, verdict)
-        }
+        Kind::Texture => match upload::upload_texture(state.textures, textures, p) {
+            Ok(slots) => ended(
+                State {
+                    textures: slots,
+                    ..state
+                },
+                Ok(()),
+            ),
+            Err(refused) => ended(state, Err(refused)),
+        },
+        Kind::Model => match upload::upload_model(state.models, models, p) {
+            Ok(slots) => ended(
+                State {
+                    models: slots,
+                    ..state
+                },
+                Ok(()),
+            ),
+            Err(refused) => ended(state, Err(refused)),
+        },
     }
 }

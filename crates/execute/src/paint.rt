@@ -35,7 +35,7 @@ pub fn paint(
     ensures depth_f32_after { picture plane.new depth.new depth_f32.new ≡ paints_on (painted_by (look_on (shelf slots textures.now) (shelf model_slots models.now)) s draw p.now).paints (picture plane.old depth.old depth_f32.old) }
 {
     if p.len() != draw_words(draw) {
-        return wrong_length();
+        return Err(wrong_length());
     }
     match draw {
         Draw::Clear => clear(plane, depth, depth_f32, p),

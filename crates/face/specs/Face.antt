@@ -1,5 +1,5 @@
 -- The set-up of a float triangle, which both rasterisers share: what comes before their loops in the original. Definitions only.
-use Rattle.std.specs.Prelude.{Bool, cond, ◌||◌, List, ℕ, ◌≤◌, pos, get_or, Float}
+use Rattle.std.specs.Prelude.{Bool, cond, ◌||◌, Option, Some, None, List, ℕ, ◌≤◌, pos, get_or, Float}
 use Rattle.std.proofs.Math.IntN.{suc_ℤ}
 use Rattle.std.specs.Float.{binary32}
 use Rattle.std.specs.Float.Ieee.{of_bits, le}
@@ -12,10 +12,8 @@ use Rattle.clip.specs.declared.vertex.ClipVertex.{ClipVertex}
 use Rattle.clip.specs.Vertices.{no_vertex}
 use Rattle.screen.specs.Plane.{width, height}
 use Rattle.face.specs.declared.Point.{Point}
-use Rattle.face.specs.declared.Bounds.{Bounds}
+use Rattle.screen.specs.declared.bounds.Bounds.{Bounds}
 use Rattle.face.specs.declared.Face.{Face}
-use Rattle.face.specs.declared.Setup.{Setup}
-use Rattle.face.specs.declared.Setup.TheVariants.{Drawn, Nothing}
 
 -- `tri[i]`
 abbrev pub corner : List ClipVertex → ℕ → ClipVertex
@@ -83,15 +81,15 @@ face_of split p q r =
     }
 
 -- rule 5.8: nothing if a corner is behind, or if the area is at most 2 ^ -23 in size; an empty box, the source's third `return`, holds no pixel
-unfoldable pub setup_of : Bool → List ClipVertex → Setup
+unfoldable pub setup_of : Bool → List ClipVertex → Option Face
 setup_of split tri =
     let p = (corner tri 0).position in
     let q = (corner tri 1).position in
     let r = (corner tri 2).position in
     let face = face_of split p q r in
-    cond (behind_of p || (behind_of q || behind_of r)) Nothing (cond (tiny_of face.area) Nothing (Drawn face))
+    cond (behind_of p || (behind_of q || behind_of r)) None (cond (tiny_of face.area) None (Some face))
 
 -- the box, if there is one, ends on the screen
-abbrev pub OnScreen : Setup → Type 0
-OnScreen (Drawn f) = (f.bounds.right ≤ width) × (f.bounds.bottom ≤ height)
-OnScreen Nothing = Unit
+abbrev pub OnScreen : Option Face → Type 0
+OnScreen (Some f) = (f.bounds.right ≤ width) × (f.bounds.bottom ≤ height)
+OnScreen None = Unit

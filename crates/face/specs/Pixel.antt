@@ -5,7 +5,7 @@ use Rattle.std.specs.Float.Ieee.{of_int, lt, le}
 use Rattle.ieee.specs.Units.{zero32, one32}
 use Rattle.vector.specs.Three.{◌⊕◌, ◌·◌, ◌⊘◌}
 use Rattle.face.specs.declared.Corners.{Corners}
-use Rattle.face.specs.declared.Bounds.{Bounds}
+use Rattle.screen.specs.declared.bounds.Bounds.{Bounds}
 use Rattle.face.specs.declared.Face.{Face}
 use Rattle.face.specs.Face.{half, edge_of}
 

@@ -2,16 +2,17 @@
 // share. Its corners, its area, the box that is looked at, and its edges along a row.
 #![tactic(auto)]
 
-ghost use Rattle.std.specs.Prelude.{◌≡◌, ◌+◌, ◌<◌, ◌≤◌, min, max};
+ghost use Rattle.std.specs.Prelude.{◌≡◌, ◌+◌, ◌<◌, ◌≤◌};
 ghost use Rattle.screen.specs.Plane.{width, height};
 ghost use Rattle.face.specs.Face.{behind_of, inverse_of, point_of, edge_of, min_of, past_of, bounds_of, face_of, setup_of, OnScreen};
 ghost use Rattle.face.specs.Pixel.{centre_of, inside_of, mix_of, passes_of};
 ghost use Rattle.face.specs.Row.{line_of, on_line, edges_of};
 
 use clip::vertex::ClipVertex;
+use screen::bounds::Bounds;
 
 // A number for each corner.
-#[derive(Clone, Copy)]
+#[derive(Clone, Copy, Debug, PartialEq)]
 pub struct Corners {
     pub c0: f32,
     pub c1: f32,
@@ -19,23 +20,14 @@ pub struct Corners {
 }
 
 // A place on the screen, in pixels.
-#[derive(Clone, Copy)]
+#[derive(Clone, Copy, Debug, PartialEq)]
 pub struct Point {
     pub x: f32,
     pub y: f32,
 }
 
-// The original's `min_x`, `max_x + 1`, `min_y` and `max_y + 1`.
-#[derive(Clone, Copy)]
-pub struct Bounds {
-    pub left: usize,
-    pub right: usize,
-    pub top: usize,
-    pub bottom: usize,
-}
-
 // What the set-up works out: the corners a, b and c, and 1 / w and the depth of each.
-#[derive(Clone, Copy)]
+#[derive(Clone, Copy, Debug, PartialEq)]
 pub struct Face {
     pub a: Point,
     pub b: Point,
@@ -46,17 +38,10 @@ pub struct Face {
     pub bounds: Bounds,
 }
 
-#[derive(Clone, Copy)]
-pub enum Setup {
-    Drawn(Face),
-    Nothing,
-}
-
-// The literal is f32::EPSILON, 2^-23.
 fn is_behind(p: [f32; 4]) -> bool
     ensures { result ≡ behind_of p }
 {
-    p[3] <= 0.00000011920928955078125
+    p[3] <= f32::EPSILON
 }
 
 fn inverse(p: [f32; 4]) -> f32
@@ -66,6 +51,7 @@ fn inverse(p: [f32; 4]) -> f32
 }
 
 // v is 1 / w. `split`: times the side of the screen and then times 0.5, as for textured triangles.
+#[tactic(auto, unfolding(crate::specs::Face::point_of))]
 fn point_of(split: bool, p: [f32; 4], v: f32) -> Point
     ensures { result ≡ point_of split p v }
 {
@@ -83,60 +69,21 @@ fn point_of(split: bool, p: [f32; 4], v: f32) -> Point
     }
 }
 
+#[tactic(auto, unfolding(crate::specs::Face::edge_of))]
 fn edge(a: Point, b: Point, x: f32, y: f32) -> f32
     ensures { result ≡ edge_of a b x y }
 {
     (x - a.x) * (b.y - a.y) - (y - a.y) * (b.x - a.x)
 }
 
-fn least(a: u32, b: u32, c: u32) -> u32
-    ensures { result ≡ min (min a b) c }
-{
-    if a <= b {
-        if a <= c {
-            return a;
-        }
-        return c;
-    }
-    if b <= c {
-        return b;
-    }
-    c
-}
-
-fn most(a: u32, b: u32, c: u32) -> u32
-    ensures { result ≡ max (max a b) c }
-{
-    if a <= b {
-        if b <= c {
-            return c;
-        }
-        return b;
-    }
-    if a <= c {
-        return c;
-    }
-    a
-}
-
-fn lesser(a: u32, b: u32) -> u32
-    ensures { result ≡ min a b }
-{
-    if a <= b {
-        return a;
-    }
-    b
-}
-
 // The first column or row of the box.
 fn first(a: f32, b: f32, c: f32) -> usize
     ensures { result ≡ min_of a b c }
 {
-    least(
-        ieee::cast::first(a),
-        ieee::cast::first(b),
-        ieee::cast::first(c),
-    ) as usize
+    let least = ieee::cast::first(a)
+        .min(ieee::cast::first(b))
+        .min(ieee::cast::first(c));
+    least as usize
 }
 
 // The first one past it, on a screen whose last is `last`.
@@ -144,14 +91,13 @@ fn past(a: f32, b: f32, c: f32, last: u32) -> usize
     requires { last < width }
     ensures { (result ≡ past_of a b c last) × (result ≤ last + 1) }
 {
-    let greatest = most(
-        ieee::cast::past(a),
-        ieee::cast::past(b),
-        ieee::cast::past(c),
-    );
-    lesser(greatest, last + 1) as usize
+    let greatest = ieee::cast::past(a)
+        .max(ieee::cast::past(b))
+        .max(ieee::cast::past(c));
+    greatest.min(last + 1) as usize
 }
 
+#[tactic(auto, unfolding(crate::specs::Face::bounds_of))]
 fn bounds_of(a: Point, b: Point, c: Point) -> Bounds
     ensures { (result ≡ bounds_of a b c) × (result.right ≤ width) × (result.bottom ≤ height) }
 {
@@ -163,6 +109,7 @@ fn bounds_of(a: Point, b: Point, c: Point) -> Bounds
     }
 }
 
+#[tactic(auto, unfolding(crate::specs::Face::face_of))]
 fn face_of(split: bool, p: [f32; 4], q: [f32; 4], r: [f32; 4]) -> Face
     ensures { (result ≡ face_of split p q r) × (result.bounds.right ≤ width) × (result.bounds.bottom ≤ height) }
 {
@@ -193,30 +140,22 @@ fn face_of(split: bool, p: [f32; 4], q: [f32; 4], r: [f32; 4]) -> Face
     }
 }
 
-// Both rasterisers' set-up.
-pub fn set_up(split: bool, tri: [ClipVertex; 3]) -> Setup
+// Both rasterisers' set-up: nothing if a corner is behind, or if the area is too small.
+#[tactic(auto, unfolding(crate::specs::Face::setup_of))]
+pub fn set_up(split: bool, tri: [ClipVertex; 3]) -> Option<Face>
     ensures { (result ≡ setup_of split tri) × OnScreen result }
 {
-    let v0 = tri[0];
-    let v1 = tri[1];
-    let v2 = tri[2];
-    let p = v0.position;
-    let q = v1.position;
-    let r = v2.position;
-    if is_behind(p) {
-        return Setup::Nothing;
-    }
-    if is_behind(q) {
-        return Setup::Nothing;
-    }
-    if is_behind(r) {
-        return Setup::Nothing;
+    let p = tri[0].position;
+    let q = tri[1].position;
+    let r = tri[2].position;
+    if is_behind(p) || is_behind(q) || is_behind(r) {
+        return None;
     }
     let face = face_of(split, p, q, r);
     if ieee::range::tiny(face.area) {
-        return Setup::Nothing;
+        return None;
     }
-    Setup::Drawn(face)
+    Some(face)
 }
 
 // The middle of a column or a row.
@@ -228,7 +167,7 @@ pub fn centre(n: usize) -> f32
 }
 
 // An edge along a row: at px it is (px - x) * rise - base, in the source's order.
-#[derive(Clone, Copy)]
+#[derive(Clone, Copy, Debug, PartialEq)]
 pub struct Line {
     pub x: f32,
     pub rise: f32,
@@ -252,50 +191,41 @@ pub fn at_column(line: Line, px: f32) -> f32
 }
 
 // The three edges along a row, each named after the corner that it faces.
-#[derive(Clone, Copy)]
+#[derive(Clone, Copy, Debug, PartialEq)]
 pub struct Edges {
     pub w0: Line,
     pub w1: Line,
     pub w2: Line,
 }
 
+#[tactic(auto, unfolding(crate::specs::Row::edges_of))]
 pub fn edges_of(f: Face, y: usize) -> Edges
     requires { y < height }
     ensures { result ≡ edges_of f y }
 {
     let py = centre(y);
-    let a = f.a;
-    let b = f.b;
-    let c = f.c;
     Edges {
-        w0: line_of(b, c, py),
-        w1: line_of(c, a, py),
-        w2: line_of(a, b, py),
+        w0: line_of(f.b, f.c, py),
+        w1: line_of(f.c, f.a, py),
+        w2: line_of(f.a, f.b, py),
     }
 }
 
 // Are all three edges on the area's side? The area is tested first: tested at each edge, it made
 // the compiler do both comparisons of each.
+#[tactic(auto, unfolding(crate::specs::Pixel::inside_of))]
 pub fn inside(area: f32, w0: f32, w1: f32, w2: f32) -> bool
     ensures { result ≡ inside_of area w0 w1 w2 }
 {
     if area > 0.0 {
-        if w0 >= 0.0 {
-            if w1 >= 0.0 {
-                return w2 >= 0.0;
-            }
-        }
-        return false;
+        w0 >= 0.0 && w1 >= 0.0 && w2 >= 0.0
+    } else {
+        w0 <= 0.0 && w1 <= 0.0 && w2 <= 0.0
     }
-    if w0 <= 0.0 {
-        if w1 <= 0.0 {
-            return w2 <= 0.0;
-        }
-    }
-    false
 }
 
 // A sum of three products, left to right.
+#[tactic(auto, unfolding(crate::specs::Pixel::mix_of))]
 pub fn mix(b: Corners, v: Corners) -> f32
     ensures { result ≡ mix_of b v }
 {
@@ -304,17 +234,12 @@ pub fn mix(b: Corners, v: Corners) -> f32
 
 // Does a depth show over an old one? Every comparison with a NaN fails, so a NaN shows, and so does
 // a depth from 0 to 1 over a NaN.
+#[tactic(auto, unfolding(crate::specs::Pixel::passes_of))]
 pub fn passes(z: f32, old: f32) -> bool
     ensures { result ≡ passes_of z old }
 {
-    if z < 0.0 {
-        return false;
-    }
-    if z > 1.0 {
-        return false;
-    }
-    if z >= old {
-        return false;
-    }
-    true
+    let below = z < 0.0;
+    let above = z > 1.0;
+    let behind = z >= old;
+    !below && !above && !behind
 }

@@ -15,8 +15,7 @@ use Rattle.screen.specs.Plane.{width, plane_bytes, paint}
 use Rattle.screen.specs.Draw.{pixels, depth_step, byte_step}
 use Rattle.screen.specs.Depths.{far_ints}
 use Rattle.verdict.specs.declared.Reason.TheVariants.{OutOfRange}
-use Rattle.verdict.specs.declared.Verdict.TheVariants.{Done, Refused}
-use Rattle.verdict.specs.Verdict.{bits_of}
+use Rattle.verdict.specs.Verdict.{done, refused, bits_of}
 use Rattle.flat.specs.declared.tri.Tri.{Tri}
 use Rattle.flat.specs.Edge.{edge_of, agrees_of, has_area, inside_of, weighted_of}
 use Rattle.flat.specs.Tri.{area_of, weight0, weight1, weight2, covers, depth_at, shows, depth_of, tri_depths, tri_plane}
@@ -25,28 +24,28 @@ use Rattle.flat.proofs.Fits.{weights_sum}
 use Rattle.flat.proofs.Side.{below_it}
 
 -- ---- what a command that is done leaves at each place
-module _ (p : List ℕ) (D : List ℤ) (done : flat_verdict p ≡ Done) where
+module _ (p : List ℕ) (D : List ℤ) (is-done : flat_verdict p ≡ done) where
   pub depth-after : (k : ℕ) → k < length D
       → get_or (flat_depths p D) k (pos 0) ≡ cond (shows (tri_of p) k (get_or D k (pos 0))) (depth_of (tri_of p) k) (get_or D k (pos 0))
   unfolding flat_depths tri_depths depth_step
-  depth-after k h = rw done (get_or-map_at (depth_step (shows (tri_of p)) (depth_of (tri_of p))) D k (pos 0) h)
+  depth-after k h = rw is-done (get_or-map_at (depth_step (shows (tri_of p)) (depth_of (tri_of p))) D k (pos 0) h)
 
 -- ---- after reset
 abbrev far : ℤ
 far = pos 2147483647
 
-depth-fresh : (p : List ℕ) (D : List ℤ) → D ≡ far_ints pixels → flat_verdict p ≡ Done → (k : ℕ) → k < pixels
+depth-fresh : (p : List ℕ) (D : List ℤ) → D ≡ far_ints pixels → flat_verdict p ≡ done → (k : ℕ) → k < pixels
     → get_or (flat_depths p D) k (pos 0) ≡ cond (shows (tri_of p) k far) (depth_of (tri_of p) k) far
-depth-fresh p D e done k h =
+depth-fresh p D e passes k h =
     let l : length D ≡ pixels = ap length e ∙ length-replicate pixels far in
     let o : get_or D k (pos 0) ≡ far = ap (λ (xs : List ℤ). get_or xs k (pos 0)) e ∙ get_or-replicate pixels k far (pos 0) h in
-    depth-after p D done k (omega arith) ∙ ap (λ (z : ℤ). cond (shows (tri_of p) k z) (depth_of (tri_of p) k) z) o
+    depth-after p D passes k (omega arith) ∙ ap (λ (z : ℤ). cond (shows (tri_of p) k z) (depth_of (tri_of p) k) z) o
 
 -- the words of a white triangle on (0,0), (4,0), (0,4) with these depths
 abbrev pub corner : ℕ → ℕ → ℕ → List ℕ
 corner z0 z1 z2 = 0 ∷ 0 ∷ z0 ∷ 4 ∷ 0 ∷ z1 ∷ 0 ∷ 4 ∷ z2 ∷ 0xff_ffff ∷ 255 ∷ []
 
-corner-done : (z0 z1 z2 : ℕ) → flat_verdict (corner z0 z1 z2) ≡ Done
+corner-done : (z0 z1 z2 : ℕ) → flat_verdict (corner z0 z1 z2) ≡ done
 unfolding flat_verdict in_reach
 corner-done z0 z1 z2 = refl
 
@@ -131,10 +130,10 @@ never k = rw (eight_depth (k % width) (k / width)) (and-false (covers (tri_of ei
 pub case_8 : (D : List ℤ) (P : List ℕ) → D ≡ far_ints pixels → length P ≡ plane_bytes → (flat_depths eight D ≡ D) × (flat_plane eight D P ≡ P)
 unfolding flat_depths flat_plane tri_depths tri_plane depth_step byte_step
 case_8 D P e whole =
-    let done = corner-done 2147483647 2147483647 2147483647 in
+    let passes = corner-done 2147483647 2147483647 2147483647 in
     let l : length D ≡ pixels = ap length e ∙ length-replicate pixels far in (
-      rw done (sym (map-none (pos 0) (depth_step (shows (tri_of eight)) (depth_of (tri_of eight))) D (λ k h. rw (old k (omega arith), never k)))),
-      rw done (sym (map-none 0 (byte_step (pos 0) (shows (tri_of eight)) (paint (tri_of eight).color) D) P (λ j h. rw (old (j / 4) (omega arith), never (j / 4))))),
+      rw passes (sym (map-none (pos 0) (depth_step (shows (tri_of eight)) (depth_of (tri_of eight))) D (λ k h. rw (old k (omega arith), never k)))),
+      rw passes (sym (map-none 0 (byte_step (pos 0) (shows (tri_of eight)) (paint (tri_of eight).color) D) P (λ j h. rw (old (j / 4) (omega arith), never (j / 4))))),
     )
   where
     old : (k : ℕ) → k < pixels → get_or D k (pos 0) ≡ far
@@ -156,15 +155,15 @@ pub utmost-area : has_area (area_of (tri_of utmost)) ≡ true
 unfolding tri_of area_of edge_of has_area
 utmost-area = refl
 
-pub case_10 : (flat_verdict utmost ≡ Done)
-    × (flat_verdict (set utmost 0 8193) ≡ Refused OutOfRange 0)
-    × (flat_verdict (set utmost 1 8193) ≡ Refused OutOfRange 1)
-    × (flat_verdict (set utmost 3 8193) ≡ Refused OutOfRange 3)
-    × (flat_verdict (set utmost 4 8193) ≡ Refused OutOfRange 4)
-    × (flat_verdict (set utmost 6 8193) ≡ Refused OutOfRange 6)
-    × (flat_verdict (set utmost 7 8193) ≡ Refused OutOfRange 7)
-    × (flat_verdict (set utmost 7 4294959103) ≡ Refused OutOfRange 7)
-    × (flat_verdict (set (set utmost 6 8193) 4 8193) ≡ Refused OutOfRange 4)
+pub case_10 : (flat_verdict utmost ≡ done)
+    × (flat_verdict (set utmost 0 8193) ≡ refused OutOfRange 0)
+    × (flat_verdict (set utmost 1 8193) ≡ refused OutOfRange 1)
+    × (flat_verdict (set utmost 3 8193) ≡ refused OutOfRange 3)
+    × (flat_verdict (set utmost 4 8193) ≡ refused OutOfRange 4)
+    × (flat_verdict (set utmost 6 8193) ≡ refused OutOfRange 6)
+    × (flat_verdict (set utmost 7 8193) ≡ refused OutOfRange 7)
+    × (flat_verdict (set utmost 7 4294959103) ≡ refused OutOfRange 7)
+    × (flat_verdict (set (set utmost 6 8193) 4 8193) ≡ refused OutOfRange 4)
     × (bits_of (flat_verdict (set utmost 0 8193)) ≡ 8)
 unfolding flat_verdict in_reach
 case_10 = (refl, refl, refl, refl, refl, refl, refl, refl, refl, refl)

@@ -14,12 +14,12 @@ use Rattle.laws.proofs.Bound as B
 use Rattle.laws.proofs.Ring.{ring, Expr, var, add, sub, mul}
 use Rattle.screen.specs.Plane.{width, height}
 use Rattle.flat.specs.declared.tri.Tri.{Tri}
-use Rattle.flat.specs.Edge.{reach, steepest, Near, Weighed, edge_of}
+use Rattle.flat.specs.Edge.{reach, steepest, Weighed, edge_of}
 use Rattle.flat.specs.Row.{InRow, line_of, on_line, edges_of}
 use Rattle.flat.specs.Tri.{Placed, area_of, weight0, weight1, weight2, covers}
 
 pub fields : {t : Tri} → Placed t
-    → SFits w64 t.x0 × SFits w64 t.y0 × SFits w64 t.x1 × SFits w64 t.y1 × SFits w64 t.x2 × SFits w64 t.y2
+    → SFits w64 t.p0.x × SFits w64 t.p0.y × SFits w64 t.p1.x × SFits w64 t.p1.y × SFits w64 t.p2.x × SFits w64 t.p2.y
 fields p =
     (B.fits tt p.in_x0, B.fits tt p.in_y0, B.fits tt p.in_x1, B.fits tt p.in_y1, B.fits tt p.in_x2, B.fits tt p.in_y2)
 
@@ -27,16 +27,8 @@ fields p =
 on_screen : {n : ℕ} (x : ℕ) → x < n → Within n (pos x)
 on_screen x h = record { within = omega arith }
 
-pub near-area : {t : Tri} → Placed t → Near t.x0 t.y0 t.x1 t.y1 t.x2 t.y2
-near-area p =
-    record { near_ax = p.in_x0; near_ay = p.in_y0; near_bx = p.in_x1; near_by = p.in_y1; near_px = p.in_x2; near_py = p.in_y2 }
-
 -- ---- one edge, from a to b
 module _ {ax ay bx by : ℤ} (p : Within reach ax) (q : Within reach ay) (r : Within reach bx) (s : Within reach by) (y : ℕ) (hy : y < height) where
-  near_row : Near ax ay bx by (pos y) (pos y)
-  near_row =
-      record { near_ax = p; near_ay = q; near_bx = r; near_by = s; near_px = B.wider tt (on_screen y hy); near_py = B.wider tt (on_screen y hy) }
-
   in_row : InRow (line_of ax ay bx by (pos y))
   unfolding line_of
   in_row = record { in_rise = B.sub s q; in_base = B.add (B.mul (B.sub s q) p) (B.mul (B.sub (on_screen y hy) q) (B.sub r p)) }
@@ -55,15 +47,6 @@ on_line_lem ax ay bx by px py =
 
 -- ---- the three edges of a triangle
 module _ {t : Tri} (p : Placed t) (y : ℕ) (hy : y < height) where
-  pub near0 : Near t.x1 t.y1 t.x2 t.y2 (pos y) (pos y)
-  near0 = near_row p.in_x1 p.in_y1 p.in_x2 p.in_y2 y hy
-
-  pub near1 : Near t.x2 t.y2 t.x0 t.y0 (pos y) (pos y)
-  near1 = near_row p.in_x2 p.in_y2 p.in_x0 p.in_y0 y hy
-
-  pub near2 : Near t.x0 t.y0 t.x1 t.y1 (pos y) (pos y)
-  near2 = near_row p.in_x0 p.in_y0 p.in_x1 p.in_y1 y hy
-
   pub row0 : InRow (edges_of t y).w0
   unfolding edges_of
   row0 = in_row p.in_x1 p.in_y1 p.in_x2 p.in_y2 y hy
@@ -91,21 +74,21 @@ module _ {t : Tri} (p : Placed t) (y : ℕ) (hy : y < height) where
 
 pub at0 : (t : Tri) (x y : ℕ) → on_line (edges_of t y).w0 (pos x) ≡ weight0 t x y
 unfolding edges_of weight0
-at0 t x y = on_line_lem t.x1 t.y1 t.x2 t.y2 (pos x) (pos y)
+at0 t x y = on_line_lem t.p1.x t.p1.y t.p2.x t.p2.y (pos x) (pos y)
 
 pub at1 : (t : Tri) (x y : ℕ) → on_line (edges_of t y).w1 (pos x) ≡ weight1 t x y
 unfolding edges_of weight1
-at1 t x y = on_line_lem t.x2 t.y2 t.x0 t.y0 (pos x) (pos y)
+at1 t x y = on_line_lem t.p2.x t.p2.y t.p0.x t.p0.y (pos x) (pos y)
 
 pub at2 : (t : Tri) (x y : ℕ) → on_line (edges_of t y).w2 (pos x) ≡ weight2 t x y
 unfolding edges_of weight2
-at2 t x y = on_line_lem t.x0 t.y0 t.x1 t.y1 (pos x) (pos y)
+at2 t x y = on_line_lem t.p0.x t.p0.y t.p1.x t.p1.y (pos x) (pos y)
 
 -- they sum to the area, everywhere
 pub weights_sum : (t : Tri) (x y : ℕ) → area_of t ≡ weight0 t x y +ℤ weight1 t x y +ℤ weight2 t x y
 unfolding area_of weight0 weight1 weight2 edge_of
 weights_sum t x y =
-    ring 8 (t.x0, (t.y0, (t.x1, (t.y1, (t.x2, (t.y2, (pos x, (pos y, tt)))))))) (at 0 1 2 3 4 5) (add (add (at 2 3 4 5 6 7) (at 4 5 0 1 6 7)) (at 0 1 2 3 6 7)) tt
+    ring 8 (t.p0.x, (t.p0.y, (t.p1.x, (t.p1.y, (t.p2.x, (t.p2.y, (pos x, (pos y, tt)))))))) (at 0 1 2 3 4 5) (add (add (at 2 3 4 5 6 7) (at 4 5 0 1 6 7)) (at 0 1 2 3 6 7)) tt
   where
     at : ℕ → ℕ → ℕ → ℕ → ℕ → ℕ → Expr
     at ax ay bx by px py = sub (mul (sub (var px) (var ax)) (sub (var by) (var ay))) (mul (sub (var py) (var ay)) (sub (var bx) (var ax)))
@@ -116,12 +99,9 @@ unfolding area_of edge_of
 area-fits p =
     B.fits tt (B.sub (B.mul (B.sub p.in_x2 p.in_x0) (B.sub p.in_y1 p.in_y0)) (B.mul (B.sub p.in_y2 p.in_y0) (B.sub p.in_x1 p.in_x0)))
 
-pub depths : {t : Tri} → Placed t → SFits w64 t.z0 × SFits w64 t.z1 × SFits w64 t.z2
-depths p = (B.fits tt (B.within32 p.in_z0), B.fits tt (B.within32 p.in_z1), B.fits tt (B.within32 p.in_z2))
-
 -- what `weighted` asks, if the triangle covers a pixel
 pub weighed : {t : Tri} → Placed t → (x y : ℕ) → x < width → y < height → covers t x y ≡ true
-    → Weighed (area_of t) (weight0 t x y) (weight1 t x y) (weight2 t x y) t.z0 t.z1 t.z2
+    → Weighed (area_of t) (weight0 t x y) (weight1 t x y) (weight2 t x y) t.p0.z t.p1.z t.p2.z
 unfolding covers
 weighed {t} p x y hx hy h =
     record {

@@ -3,7 +3,6 @@ use mathlib.Core.Path.{◌≡◌, refl}
 use mathlib.Core.Bool.{Bool, true, false, cond}
 use mathlib.Core.List.{List, [], ◌∷◌}
 use Prim.Native.Nat.{ℕ}
-use native.Mathlib.Omega.{arith}
 use borrow.Author.Tests.{leb-true}
 use lib.IntN.{nat_abs}
 use lib.ListN.{get_or}
@@ -12,24 +11,21 @@ use mir.Val.{Fits}
 use mir.ValLaws.{to_z-Fits}
 use Rattle.laws.specs.Within.{Within}
 use Rattle.verdict.specs.declared.Reason.TheVariants.{OutOfRange}
-use Rattle.verdict.specs.declared.Verdict.TheVariants.{Done, Refused}
+use Rattle.verdict.specs.Verdict.{done, refused}
 use Rattle.flat.specs.Edge.{reach}
 use Rattle.flat.specs.Tri.{Placed}
 use Rattle.flat.specs.Words.{signed_at, in_reach, first_out, flat_verdict, tri_of}
 
 -- if a list is not refused, its first word is in reach and the rest is not refused
-pub first_in : (p : List ℕ) (k : ℕ) (ks : List ℕ) → first_out p (k ∷ ks) ≡ Done → Within reach (signed_at p k) × (first_out p ks ≡ Done)
+pub first_in : (p : List ℕ) (k : ℕ) (ks : List ℕ) → first_out p (k ∷ ks) ≡ done → Within reach (signed_at p k) × (first_out p ks ≡ done)
 unfolding in_reach
 first_in p k ks e = go (in_reach (signed_at p k)) refl e
   where
-    never : (k : ℕ) → Refused OutOfRange k ≡ Done → ⊥
-    never k e = let z : ◌≡◌ {A = ℕ} 0 1 = cc in omega arith
-
-    go : (b : Bool) → in_reach (signed_at p k) ≡ b → cond b (first_out p ks) (Refused OutOfRange k) ≡ Done → Within reach (signed_at p k) × (first_out p ks ≡ Done)
+    go : (b : Bool) → in_reach (signed_at p k) ≡ b → cond b (first_out p ks) (refused OutOfRange k) ≡ done → Within reach (signed_at p k) × (first_out p ks ≡ done)
     go true h e = (record { within = leb-true (nat_abs (signed_at p k)) reach h }, e)
-    go false h e = absurd (never k e)
+    go false h e = absurd cc
 
-pub done-placed : (p : List ℕ) → ((k : ℕ) → Fits w32 (get_or p k 0)) → flat_verdict p ≡ Done → Placed (tri_of p)
+pub done-placed : (p : List ℕ) → ((k : ℕ) → Fits w32 (get_or p k 0)) → flat_verdict p ≡ done → Placed (tri_of p)
 unfolding flat_verdict tri_of
 done-placed p f e =
     let (x0, e1) = first_in p 0 (1 ∷ 3 ∷ 4 ∷ 6 ∷ 7 ∷ []) e in

@@ -108,16 +108,16 @@ at : ℕ → ℕ → ℕ → ℕ → Expr
 at ax ay bx by = sub (mul (sub (var 6) (var ax)) (sub (var by) (var ay))) (mul (sub (var 7) (var ay)) (sub (var bx) (var ax)))
 
 module _ (t : Tri) (x y : ℕ) where
-  across : weight0 t x y *ℤ (t.x0 -ℤ pos x) +ℤ weight1 t x y *ℤ (t.x1 -ℤ pos x) +ℤ weight2 t x y *ℤ (t.x2 -ℤ pos x) ≡ pos 0
+  across : weight0 t x y *ℤ (t.p0.x -ℤ pos x) +ℤ weight1 t x y *ℤ (t.p1.x -ℤ pos x) +ℤ weight2 t x y *ℤ (t.p2.x -ℤ pos x) ≡ pos 0
   unfolding weight0 weight1 weight2 edge_of at sum
   across =
-      ring 8 (t.x0, (t.y0, (t.x1, (t.y1, (t.x2, (t.y2, (pos x, (pos y, tt))))))))
+      ring 8 (t.p0.x, (t.p0.y, (t.p1.x, (t.p1.y, (t.p2.x, (t.p2.y, (pos x, (pos y, tt))))))))
       (sum (mul (at 2 3 4 5) (sub (var 0) (var 6))) (mul (at 4 5 0 1) (sub (var 2) (var 6))) (mul (at 0 1 2 3) (sub (var 4) (var 6)))) (var 8) tt
 
-  down : weight0 t x y *ℤ (t.y0 -ℤ pos y) +ℤ weight1 t x y *ℤ (t.y1 -ℤ pos y) +ℤ weight2 t x y *ℤ (t.y2 -ℤ pos y) ≡ pos 0
+  down : weight0 t x y *ℤ (t.p0.y -ℤ pos y) +ℤ weight1 t x y *ℤ (t.p1.y -ℤ pos y) +ℤ weight2 t x y *ℤ (t.p2.y -ℤ pos y) ≡ pos 0
   unfolding weight0 weight1 weight2 edge_of at sum
   down =
-      ring 8 (t.x0, (t.y0, (t.x1, (t.y1, (t.x2, (t.y2, (pos x, (pos y, tt))))))))
+      ring 8 (t.p0.x, (t.p0.y, (t.p1.x, (t.p1.y, (t.p2.x, (t.p2.y, (pos x, (pos y, tt))))))))
       (sum (mul (at 2 3 4 5) (sub (var 1) (var 7))) (mul (at 4 5 0 1) (sub (var 3) (var 7))) (mul (at 0 1 2 3) (sub (var 5) (var 7)))) (var 8) tt
 
   aside : (e0 e1 e2 : ℤ) → weight0 t x y *ℤ e0 +ℤ weight1 t x y *ℤ e1 +ℤ weight2 t x y *ℤ e2 ≡ pos 0 → Side e0 e1 e2 → covers t x y ≡ false
@@ -128,14 +128,14 @@ module _ (t : Tri) (x y : ℕ) where
       go true h = absurd (outside (area_of t) (weight0 t x y) (weight1 t x y) (weight2 t x y) e0 e1 e2 (weights_sum t x y) z s (signs (area_of t) (weight0 t x y) (weight1 t x y) (weight2 t x y) h))
       go false h = refl
 
-  pub left_of : Before x t.x0 t.x1 t.x2 → covers t x y ≡ false
-  left_of h = aside (t.x0 -ℤ pos x) (t.x1 -ℤ pos x) (t.x2 -ℤ pos x) across (side_before x t.x0 t.x1 t.x2 h)
+  pub left_of : Before x t.p0.x t.p1.x t.p2.x → covers t x y ≡ false
+  left_of h = aside (t.p0.x -ℤ pos x) (t.p1.x -ℤ pos x) (t.p2.x -ℤ pos x) across (side_before x t.p0.x t.p1.x t.p2.x h)
 
-  pub right_of : Beyond x t.x0 t.x1 t.x2 → covers t x y ≡ false
-  right_of h = aside (t.x0 -ℤ pos x) (t.x1 -ℤ pos x) (t.x2 -ℤ pos x) across (side_beyond x t.x0 t.x1 t.x2 h)
+  pub right_of : Beyond x t.p0.x t.p1.x t.p2.x → covers t x y ≡ false
+  right_of h = aside (t.p0.x -ℤ pos x) (t.p1.x -ℤ pos x) (t.p2.x -ℤ pos x) across (side_beyond x t.p0.x t.p1.x t.p2.x h)
 
-  pub above_it : Before y t.y0 t.y1 t.y2 → covers t x y ≡ false
-  above_it h = aside (t.y0 -ℤ pos y) (t.y1 -ℤ pos y) (t.y2 -ℤ pos y) down (side_before y t.y0 t.y1 t.y2 h)
+  pub above_it : Before y t.p0.y t.p1.y t.p2.y → covers t x y ≡ false
+  above_it h = aside (t.p0.y -ℤ pos y) (t.p1.y -ℤ pos y) (t.p2.y -ℤ pos y) down (side_before y t.p0.y t.p1.y t.p2.y h)
 
-  pub below_it : Beyond y t.y0 t.y1 t.y2 → covers t x y ≡ false
-  below_it h = aside (t.y0 -ℤ pos y) (t.y1 -ℤ pos y) (t.y2 -ℤ pos y) down (side_beyond y t.y0 t.y1 t.y2 h)
+  pub below_it : Beyond y t.p0.y t.p1.y t.p2.y → covers t x y ≡ false
+  below_it h = aside (t.p0.y -ℤ pos y) (t.p1.y -ℤ pos y) (t.p2.y -ℤ pos y) down (side_beyond y t.p0.y t.p1.y t.p2.y h)

@@ -45,7 +45,7 @@ module _ (t : Tri) where
   pub turned_area : area_of (turned_of t) ≡ neg_ℤ (area_of t)
   unfolding turned_of area_of edge_of
   turned_area =
-      ring 6 (t.x0, (t.y0, (t.x1, (t.y1, (t.x2, (t.y2, tt)))))) (at 0 1 4 5 2 3) (neg (at 0 1 2 3 4 5)) tt
+      ring 6 (t.p0.x, (t.p0.y, (t.p1.x, (t.p1.y, (t.p2.x, (t.p2.y, tt)))))) (at 0 1 4 5 2 3) (neg (at 0 1 2 3 4 5)) tt
     where
       at : ℕ → ℕ → ℕ → ℕ → ℕ → ℕ → Expr
       at ax ay bx by px py = sub (mul (sub (var px) (var ax)) (sub (var by) (var ay))) (mul (sub (var py) (var ay)) (sub (var bx) (var ax)))
@@ -53,15 +53,15 @@ module _ (t : Tri) where
   module _ (x y : ℕ) where
     turned0 : weight0 (turned_of t) x y ≡ neg_ℤ (weight0 t x y)
     unfolding turned_of weight0
-    turned0 = turned_edge t.x1 t.y1 t.x2 t.y2 (pos x) (pos y)
+    turned0 = turned_edge t.p1.x t.p1.y t.p2.x t.p2.y (pos x) (pos y)
 
     turned1 : weight1 (turned_of t) x y ≡ neg_ℤ (weight2 t x y)
     unfolding turned_of weight1 weight2
-    turned1 = turned_edge t.x0 t.y0 t.x1 t.y1 (pos x) (pos y)
+    turned1 = turned_edge t.p0.x t.p0.y t.p1.x t.p1.y (pos x) (pos y)
 
     turned2 : weight2 (turned_of t) x y ≡ neg_ℤ (weight1 t x y)
     unfolding turned_of weight1 weight2
-    turned2 = turned_edge t.x2 t.y2 t.x0 t.y0 (pos x) (pos y)
+    turned2 = turned_edge t.p2.x t.p2.y t.p0.x t.p0.y (pos x) (pos y)
 
 -- ---- the signs
 turned_le : (w : ℤ) → le_z (pos 0) (neg_ℤ w) ≡ le_z w (pos 0)
@@ -117,8 +117,8 @@ module _ (t : Tri) (down : lt_z (area_of t) (pos 0) ≡ true) where
   turned_depth : (x y : ℕ) → depth_at (turned_of t) x y ≡ depth_at t x y
   unfolding depth_at weighted_of turned_of
   turned_depth x y =
-      rw (turned_area t, turned0 t x y, turned1 t x y, turned2 t x y, changed (weight0 t x y) (weight1 t x y) (weight2 t x y) t.z0 t.z1 t.z2)
-      (turned_quot (area_of t) down (weight0 t x y *ℤ t.z0 +ℤ weight1 t x y *ℤ t.z1 +ℤ weight2 t x y *ℤ t.z2))
+      rw (turned_area t, turned0 t x y, turned1 t x y, turned2 t x y, changed (weight0 t x y) (weight1 t x y) (weight2 t x y) t.p0.z t.p1.z t.p2.z)
+      (turned_quot (area_of t) down (weight0 t x y *ℤ t.p0.z +ℤ weight1 t x y *ℤ t.p1.z +ℤ weight2 t x y *ℤ t.p2.z))
     where
       changed : (w0 w1 w2 z0 z1 z2 : ℤ) → neg_ℤ w0 *ℤ z0 +ℤ neg_ℤ w2 *ℤ z2 +ℤ neg_ℤ w1 *ℤ z1 ≡ neg_ℤ (w0 *ℤ z0 +ℤ w1 *ℤ z1 +ℤ w2 *ℤ z2)
       changed w0 w1 w2 z0 z1 z2 =

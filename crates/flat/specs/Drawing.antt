@@ -1,11 +1,11 @@
 -- What the steps of a draw are given, and what they leave. Assumes nothing.
 use Rattle.std.specs.Prelude.{◌≡◌, true, false, List, ℕ, ◌<◌, ◌≤◌, ℤ, pos}
 use Rattle.std.specs.Int.Signed.{lt_z}
-use Rattle.screen.specs.Plane.{width, height, plane_bytes, paint}
-use Rattle.screen.specs.Draw.{pixels, Drawn}
+use Rattle.screen.specs.Plane.{width, height, paint}
+use Rattle.screen.specs.Draw.{Drawn}
 use Rattle.flat.specs.declared.tri.Tri.{Tri}
-use Rattle.flat.specs.declared.bounds.Bounds.{Bounds}
-use Rattle.flat.specs.Tri.{Placed, area_of, covers, shows, depth_of}
+use Rattle.screen.specs.declared.bounds.Bounds.{Bounds}
+use Rattle.flat.specs.Tri.{covers, shows, depth_of}
 
 -- the pixels from lo to hi are drawn
 abbrev pub TriDrawn : Tri → ℕ → ℕ → List ℤ → List ℕ → List ℤ → List ℕ → Type 0
@@ -13,27 +13,7 @@ TriDrawn t = Drawn (pos 0) (shows t) (depth_of t) (paint t.color)
 
 -- the corners the other way round
 unfoldable pub turned_of : Tri → Tri
-turned_of t =
-    record {
-      x0 = t.x0;
-      y0 = t.y0;
-      z0 = t.z0;
-      x1 = t.x2;
-      y1 = t.y2;
-      z1 = t.z2;
-      x2 = t.x1;
-      y2 = t.y1;
-      z2 = t.z1;
-      color = t.color;
-    }
-
--- a triangle with its area, which is positive, and buffers of these lengths
-pub record Ready (t : Tri) (area : ℤ) (plane depth : ℕ) : Type 0 where
-  pub placed : Placed t
-  pub is-area : area ≡ area_of t
-  pub upward : lt_z (pos 0) (area_of t) ≡ true
-  pub of-plane : plane ≡ plane_bytes
-  pub of-depth : depth ≡ pixels
+turned_of t = record { p0 = t.p0; p1 = t.p2; p2 = t.p1; color = t.color }
 
 -- a column (or a row) before, and beyond, three corners
 pub record Before (x : ℕ) (a b c : ℤ) : Type 0 where

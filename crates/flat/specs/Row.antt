@@ -17,9 +17,9 @@ on_line l px = px *ℤ l.rise -ℤ l.base
 unfoldable pub edges_of : Tri → ℕ → Edges
 edges_of t y =
     record {
-      w0 = line_of t.x1 t.y1 t.x2 t.y2 (pos y);
-      w1 = line_of t.x2 t.y2 t.x0 t.y0 (pos y);
-      w2 = line_of t.x0 t.y0 t.x1 t.y1 (pos y);
+      w0 = line_of t.p1.x t.p1.y t.p2.x t.p2.y (pos y);
+      w1 = line_of t.p2.x t.p2.y t.p0.x t.p0.y (pos y);
+      w2 = line_of t.p0.x t.p0.y t.p1.x t.p1.y (pos y);
     }
 
 -- the line of an edge whose ends are in reach

@@ -8,40 +8,45 @@ use Rattle.laws.specs.Within.{Within}
 use Rattle.screen.specs.Plane.{width, paint}
 use Rattle.screen.specs.Draw.{depth_step, byte_step}
 use Rattle.flat.specs.declared.tri.Tri.{Tri}
+use Rattle.flat.specs.declared.edge.Weights.{Weights}
 use Rattle.flat.specs.Edge.{reach, edge_of, inside_of, weighted_of}
 
 -- a triangle that is not refused: its coordinates are in reach, and its depths are of 32 bits
 pub record Placed (t : Tri) : Type 0 where
-  pub in_x0 : Within reach t.x0
-  pub in_y0 : Within reach t.y0
-  pub in_x1 : Within reach t.x1
-  pub in_y1 : Within reach t.y1
-  pub in_x2 : Within reach t.x2
-  pub in_y2 : Within reach t.y2
-  pub in_z0 : SFits w32 t.z0
-  pub in_z1 : SFits w32 t.z1
-  pub in_z2 : SFits w32 t.z2
+  pub in_x0 : Within reach t.p0.x
+  pub in_y0 : Within reach t.p0.y
+  pub in_x1 : Within reach t.p1.x
+  pub in_y1 : Within reach t.p1.y
+  pub in_x2 : Within reach t.p2.x
+  pub in_y2 : Within reach t.p2.y
+  pub in_z0 : SFits w32 t.p0.z
+  pub in_z1 : SFits w32 t.p1.z
+  pub in_z2 : SFits w32 t.p2.z
 
 -- `area`
 unfoldable pub area_of : Tri → ℤ
-area_of t = edge_of t.x0 t.y0 t.x1 t.y1 t.x2 t.y2
+area_of t = edge_of t.p0.x t.p0.y t.p1.x t.p1.y t.p2.x t.p2.y
 
 -- `w0`, `w1`, `w2`: the edge that faces each corner, at (x, y)
 unfoldable pub weight0 : Tri → ℕ → ℕ → ℤ
-weight0 t x y = edge_of t.x1 t.y1 t.x2 t.y2 (pos x) (pos y)
+weight0 t x y = edge_of t.p1.x t.p1.y t.p2.x t.p2.y (pos x) (pos y)
 
 unfoldable pub weight1 : Tri → ℕ → ℕ → ℤ
-weight1 t x y = edge_of t.x2 t.y2 t.x0 t.y0 (pos x) (pos y)
+weight1 t x y = edge_of t.p2.x t.p2.y t.p0.x t.p0.y (pos x) (pos y)
 
 unfoldable pub weight2 : Tri → ℕ → ℕ → ℤ
-weight2 t x y = edge_of t.x0 t.y0 t.x1 t.y1 (pos x) (pos y)
+weight2 t x y = edge_of t.p0.x t.p0.y t.p1.x t.p1.y (pos x) (pos y)
+
+-- the three
+abbrev pub weights_of : Tri → ℕ → ℕ → Weights
+weights_of t x y = record { w0 = weight0 t x y; w1 = weight1 t x y; w2 = weight2 t x y }
 
 -- does the triangle cover (x, y), and with which depth?
 unfoldable pub covers : Tri → ℕ → ℕ → Bool
 covers t x y = inside_of (area_of t) (weight0 t x y) (weight1 t x y) (weight2 t x y)
 
 unfoldable pub depth_at : Tri → ℕ → ℕ → ℤ
-depth_at t x y = weighted_of (area_of t) (weight0 t x y) (weight1 t x y) (weight2 t x y) t.z0 t.z1 t.z2
+depth_at t x y = weighted_of (area_of t) (weight0 t x y) (weight1 t x y) (weight2 t x y) t.p0.z t.p1.z t.p2.z
 
 -- rule 4.5: does it show at the pixel k, whose depth is old? And the depth that it then leaves
 unfoldable pub shows : Tri → ℕ → ℤ → Bool

@@ -1,11 +1,10 @@
 -- Command 12: what its eleven words say, whether they are refused, and what they leave. Assumes nothing.
-use Rattle.std.specs.Prelude.{Bool, cond, List, [], ◌∷◌, ℕ, ◌*◌, ◌/◌, ◌%◌, min, leb, ℤ, nat_abs, get_or}
+use Rattle.std.specs.Prelude.{Bool, cond, List, [], ◌∷◌, ℕ, ◌+◌, ◌*◌, ◌/◌, ◌%◌, min, leb, ℤ, nat_abs, get_or}
 use Rattle.std.specs.Int.{w32}
 use Rattle.std.proofs.Common.{to_z}
-use Rattle.verdict.specs.Verdict.{when_done}
+use Rattle.verdict.specs.Verdict.{Verdict, done, refused, when_done}
 use Rattle.verdict.specs.declared.Reason.TheVariants.{OutOfRange}
-use Rattle.verdict.specs.declared.Verdict.{Verdict}
-use Rattle.verdict.specs.declared.Verdict.TheVariants.{Done, Refused}
+use Rattle.flat.specs.declared.tri.Corner.{Corner}
 use Rattle.flat.specs.declared.tri.Tri.{Tri}
 use Rattle.flat.specs.Edge.{reach}
 use Rattle.flat.specs.Tri.{tri_depths, tri_plane}
@@ -18,21 +17,19 @@ signed_at p k = to_z w32 (get_or p k 0)
 unfoldable pub shaded_of : ℕ → ℕ → ℕ
 shaded_of c shade = c * min shade 255 / 255
 
+-- rule 4.1: the corner whose three words begin at k
+abbrev pub corner_at : List ℕ → ℕ → Corner
+corner_at p k = record { x = signed_at p k; y = signed_at p (k + 1); z = signed_at p (k + 2) }
+
 -- rules 4.1 and 4.6: x, y and depth of each corner; the colour, whose top byte is not used; the shade
 unfoldable pub tri_of : List ℕ → Tri
 tri_of p =
     let rgb : ℕ = get_or p 9 0 in
     let shade : ℕ = get_or p 10 0 in
     record {
-      x0 = signed_at p 0;
-      y0 = signed_at p 1;
-      z0 = signed_at p 2;
-      x1 = signed_at p 3;
-      y1 = signed_at p 4;
-      z1 = signed_at p 5;
-      x2 = signed_at p 6;
-      y2 = signed_at p 7;
-      z2 = signed_at p 8;
+      p0 = corner_at p 0;
+      p1 = corner_at p 3;
+      p2 = corner_at p 6;
       color = record { r = shaded_of (rgb / 65536 % 256) shade; g = shaded_of (rgb / 256 % 256) shade; b = shaded_of (rgb % 256) shade; a = 255 };
     }
 
@@ -42,8 +39,8 @@ in_reach a = leb (nat_abs a) reach
 
 -- the first of these words that is out of reach, if one is
 abbrev pub first_out : List ℕ → List ℕ → Verdict
-first_out p [] = Done
-first_out p (k ∷ ks) = cond (in_reach (signed_at p k)) (first_out p ks) (Refused OutOfRange k)
+first_out p [] = done
+first_out p (k ∷ ks) = cond (in_reach (signed_at p k)) (first_out p ks) (refused OutOfRange k)
 
 -- the coordinates, in payload order
 unfoldable pub flat_verdict : List ℕ → Verdict

@@ -5,40 +5,42 @@ ghost use Rattle.flat.specs.Edge.{Near, Weighed, edge_of, weighted_of};
 ghost use Rattle.flat.specs.Row.{InRow, line_of, on_line, edges_of};
 ghost use Rattle.flat.specs.Tri.{Placed, area_of};
 
-use crate::tri::Tri;
+use crate::tri::{Corner, Tri};
 
 // The edge from a to b, at p.
-fn edge(ax: i64, ay: i64, bx: i64, by: i64, px: i64, py: i64) -> i64
-    requires { Near ax ay bx by px py }
-    ensures { result ≡ edge_of ax ay bx by px py }
+fn edge(a: Corner, b: Corner, p: Corner) -> i64
+    requires { Near a.x a.y b.x b.y p.x p.y }
+    ensures { result ≡ edge_of a.x a.y b.x b.y p.x p.y }
 {
-    (px - ax) * (by - ay) - (py - ay) * (bx - ax)
+    (p.x - a.x) * (b.y - a.y) - (p.y - a.y) * (b.x - a.x)
 }
 
+#[tactic(auto, unfolding(crate::specs::Tri::area_of))]
 pub fn area_of(t: Tri) -> i64
     requires { Placed t }
     ensures { result ≡ area_of t }
 {
-    edge(t.x0, t.y0, t.x1, t.y1, t.x2, t.y2)
+    edge(t.p0, t.p1, t.p2)
 }
 
 // An edge along a row: at the column x it is x * rise - base.
-#[derive(Clone, Copy)]
+#[derive(Clone, Copy, Debug, PartialEq, Eq)]
 pub struct Line {
     pub rise: i64,
     pub base: i64,
 }
 
-fn line_of(ax: i64, ay: i64, bx: i64, by: i64, py: i64) -> Line
-    requires { Near ax ay bx by py py }
-    ensures { result ≡ line_of ax ay bx by py }
+fn line_of(a: Corner, b: Corner, py: i64) -> Line
+    requires { Near a.x a.y b.x b.y py py }
+    ensures { result ≡ line_of a.x a.y b.x b.y py }
 {
     Line {
-        rise: by - ay,
-        base: (by - ay) * ax + (py - ay) * (bx - ax),
+        rise: b.y - a.y,
+        base: (b.y - a.y) * a.x + (py - a.y) * (b.x - a.x),
     }
 }
 
+#[tactic(auto, unfolding(crate::specs::Row::on_line))]
 pub fn at_column(line: Line, x: usize) -> i64
     requires in_row { InRow line }
     requires x_lt_width { x < width }
@@ -47,14 +49,23 @@ pub fn at_column(line: Line, x: usize) -> i64
     (x as i64) * line.rise - line.base
 }
 
-// The three edges along a row, each named after the corner that it faces.
-#[derive(Clone, Copy)]
+// The three edges at a pixel, each named after the corner that it faces.
+#[derive(Clone, Copy, Debug, PartialEq, Eq)]
+pub struct Weights {
+    pub w0: i64,
+    pub w1: i64,
+    pub w2: i64,
+}
+
+// The same along a row.
+#[derive(Clone, Copy, Debug, PartialEq, Eq)]
 pub struct Edges {
     pub w0: Line,
     pub w1: Line,
     pub w2: Line,
 }
 
+#[tactic(auto, unfolding(crate::specs::Row::edges_of))]
 pub fn edges_of(t: Tri, y: usize) -> Edges
     requires placed { Placed t }
     requires y_lt_height { y < height }
@@ -62,15 +73,16 @@ pub fn edges_of(t: Tri, y: usize) -> Edges
 {
     let py = y as i64;
     Edges {
-        w0: line_of(t.x1, t.y1, t.x2, t.y2, py),
-        w1: line_of(t.x2, t.y2, t.x0, t.y0, py),
-        w2: line_of(t.x0, t.y0, t.x1, t.y1, py),
+        w0: line_of(t.p1, t.p2, py),
+        w1: line_of(t.p2, t.p0, py),
+        w2: line_of(t.p0, t.p1, py),
     }
 }
 
-pub fn weighted(area: i64, w0: i64, w1: i64, w2: i64, z0: i64, z1: i64, z2: i64) -> i32
-    requires { Weighed area w0 w1 w2 z0 z1 z2 }
-    ensures { result ≡ weighted_of area w0 w1 w2 z0 z1 z2 }
+// The depth of a triangle of this area where its edges are these.
+pub fn weighted(area: i64, w: Weights, t: Tri) -> i32
+    requires { Weighed area w.w0 w.w1 w.w2 t.p0.z t.p1.z t.p2.z }
+    ensures { result ≡ weighted_of area w.w0 w.w1 w.w2 t.p0.z t.p1.z t.p2.z }
 {
-    ((w0 * z0 + w1 * z1 + w2 * z2) / area) as i32
+    ((w.w0 * t.p0.z + w.w1 * t.p1.z + w.w2 * t.p2.z) / area) as i32
 }

@@ -12,6 +12,7 @@ use verdict::Verdict;
 pub mod bounds;
 pub mod draw;
 pub mod edge;
+pub mod solid;
 pub mod tri;
 
 pub fn draw_flat_triangle(plane: &mut [u8], depth: &mut [i32], p: &[u32]) -> Verdict
@@ -22,15 +23,7 @@ pub fn draw_flat_triangle(plane: &mut [u8], depth: &mut [i32], p: &[u32]) -> Ver
     ensures depth_after { depth.new ≡ flat_depths p.now depth.old }
     ensures plane_after { plane.new ≡ flat_plane p.now depth.old plane.old }
 {
-    let verdict = tri::verdict_of(p);
-    match verdict {
-        Verdict::Done => {
-            draw::draw_tri(plane, depth, tri::tri_of(p));
-            verdict
-        }
-        Verdict::Refused {
-            reason: _,
-            index: _,
-        } => verdict,
-    }
+    tri::verdict_of(p)?;
+    draw::draw_tri(plane, depth, tri::tri_of(p));
+    Ok(())
 }

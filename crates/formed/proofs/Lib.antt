@@ -1,3 +1,3 @@
-mod Laid
+mod Walks
 mod Split
 mod Marks

@@ -1,16 +1,15 @@
 -- When no later slot has a number: its mark is not set, or it is among all numbers once. Assumes nothing.
 use Prim.Native.Nat.{ℕ, zero, suc, ◌+◌, ◌%◌, ◌≤◌, ◌<◌}
 use mathlib.Core.Path.{◌≡◌, refl, sym, ap, ◌∙◌}
-use mathlib.Core.Bool.{Bool, true, false, cond, true≢false}
+use mathlib.Core.Bool.{Bool, true, false, cond, ◌&&◌, and_comm, true≢false}
 use mathlib.Core.List.{List, [], ◌∷◌, map}
 use native.Mathlib.Omega.{arith}
-use native.Mathlib.Numerals.{add-one}
 use native.Mathlib.Decide.{ℕ_discrete}
-use lib.ListN.{length, drop, get_or, set, drop_of_length-le}
-use lib.Seq.{drop-cons, get_or-set_same, get_or-set_other}
+use lib.ListN.{length, drop, get_or, set}
+use lib.Seq.{get_or-set_same, get_or-set_other}
 use lib.Dec.{eqb}
-use borrow.Author.Tests.{eq-eqb, ne_eqb}
-use Rattle.store.proofs.Walk.{slots-from, fresh_end, fresh_next}
+use borrow.Author.Tests.{eq-eqb}
+use Rattle.store.proofs.Walk.{slots-from, fresh_next}
 use Rattle.store.specs.Slots.{no_slot, fresh}
 use Rattle.formed.specs.Tests.{differ, number_of, hits}
 use Rattle.store.specs.declared.Slot.{Slot}
@@ -18,20 +17,6 @@ use Rattle.store.specs.declared.Slot.{Slot}
 -- if a number's mark is not set, no slot has it
 abbrev pub Marked : List Bool → List Slot → Type 0
 Marked marks ss = (n : ℕ) → get_or marks (n % 509) false ≡ false → fresh n ss ≡ true
-
--- ---- how often a number is in a list, by the element at i and those after it
-module _ (n : ℕ) (xs : List ℕ) (i : ℕ) (here : i < length xs) where
-  numbers_from : drop i xs ≡ get_or xs i 0 ∷ drop (i + 1) xs
-  numbers_from = drop-cons xs i 0 here ∙ ap (λ (k : ℕ). get_or xs i 0 ∷ drop k xs) (sym (add-one i))
-
-  pub hit : get_or xs i 0 ≡ n → hits n (drop i xs) ≡ suc (hits n (drop (i + 1) xs))
-  hit e = rw (numbers_from, eq-eqb _ _ e)
-
-  pub no_hit : (get_or xs i 0 ≡ n → ⊥) → hits n (drop i xs) ≡ hits n (drop (i + 1) xs)
-  no_hit e = rw (numbers_from, ne_eqb _ _ e)
-
-pub hits_end : (n : ℕ) (xs : List ℕ) (i : ℕ) → length xs ≤ i → hits n (drop i xs) ≡ 0
-hits_end n xs i h = ap (hits n) (drop_of_length-le xs h)
 
 -- ---- when no later slot has a number
 -- a number that is nowhere is no slot's
@@ -62,17 +47,8 @@ module _ (ss : List Slot) (i j : ℕ) (next : i + 1 ≡ j) (here : i < length ss
   from : drop i ss ≡ s ∷ drop j ss
   from = slots-from ss i here ∙ ap (λ (n : ℕ). s ∷ drop n ss) next
 
-  pub differ_unheld : s.held ≡ false → true ≡ differ (drop i ss)
-  differ_unheld a = rw (from, a)
-
-  pub differ_not : s.held ≡ true → fresh s.number (drop j ss) ≡ false → false ≡ differ (drop i ss)
-  differ_not a f = rw (from, a, f)
-
-  pub differ_same : s.held ≡ true → fresh s.number (drop j ss) ≡ true → differ (drop j ss) ≡ differ (drop i ss)
-  differ_same a f = rw (from, a, f)
-
-  pub marked_unheld : (marks : List Bool) → s.held ≡ false → Marked marks (drop i ss)
-  marked_unheld marks a n h = fresh_end ss i here n a
+  pub differ_held : s.held ≡ true → differ (drop i ss) ≡ (differ (drop j ss) && fresh s.number (drop j ss))
+  differ_held a = rw (from, a) (and_comm (fresh s.number (drop j ss)) (differ (drop j ss)))
 
   pub marked-held : (marks : List Bool) → length marks ≡ 509 → s.held ≡ true → Marked marks (drop j ss) → Marked (set marks (s.number % 509) true) (drop i ss)
   marked-held marks long a m n h = go (ℕ_discrete (n % 509) (s.number % 509))

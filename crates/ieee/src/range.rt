@@ -5,37 +5,24 @@ ghost use Rattle.ieee.specs.Range.{clamp_of, max_of, abs_of, tiny_of};
 pub fn clamp01(x: f32) -> f32
     ensures { result ≡ clamp_of x }
 {
-    if x < 0.0 {
-        return 0.0;
-    }
-    if x > 1.0 {
-        return 1.0;
-    }
-    x
+    x.clamp(0.0, 1.0)
 }
 
+// Stays: std's `max` may answer either of two zeros, and `max_of` is 0.0 at -0.0.
 pub fn max0(x: f32) -> f32
     ensures { result ≡ max_of x }
 {
     if x > 0.0 { x } else { 0.0 }
 }
 
-// -0.0 is not below 0.0, so the zeros have a test of their own.
 pub fn abs(x: f32) -> f32
     ensures { result ≡ abs_of x }
 {
-    if x < 0.0 {
-        return -x;
-    }
-    if x == 0.0 {
-        return 0.0;
-    }
-    x
+    x.abs()
 }
 
-// The literal is f32::EPSILON, 2^-23.
 pub fn tiny(x: f32) -> bool
     ensures { result ≡ tiny_of x }
 {
-    abs(x) <= 0.00000011920928955078125
+    abs(x) <= f32::EPSILON
 }

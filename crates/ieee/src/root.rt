@@ -35,10 +35,8 @@ fn root_bits(b: u32, p: u32) -> u32
         let t = 125 + b / 0x80_0000;
         let a = ((b % 0x80_0000 + 0x80_0000) as u64) << (23 + t % 2);
         let c = std::num::wrapping_sub_u32(p, t / 2 * 0x80_0000) as u64;
-        if c * c < a + c {
-            if a <= c * c + c {
-                return p;
-            }
+        if c * c < a + c && a <= c * c + c {
+            return p;
         }
     }
     super::digits::root_bits(b)
@@ -48,14 +46,11 @@ pub fn sqrt(x: f32) -> f32
     ensures { result ≡ root x }
 {
     if x > 0.0 {
-        if x < f32::from_bits(0x7f80_0000) {
-            let b = f32::to_bits(x);
+        if x < f32::INFINITY {
+            let b = x.to_bits();
             return f32::from_bits(root_bits(b, guess(x, b)));
         }
         return x;
     }
-    if x == 0.0 {
-        return x;
-    }
-    0.0 / 0.0
+    if x == 0.0 { x } else { f32::NAN }
 }

@@ -3,96 +3,53 @@
 // lines.
 #![tactic(auto)]
 
-ghost use Rattle.std.specs.Prelude.{◌+◌, ◌*◌, ◌≤◌, length};
-
+use ieee::bits::{bits_of, float_of, is_finite};
+use ieee::cast::{byte, ceil_i32, first, floor_i32, past, texel, unit_byte};
+use ieee::range::{abs, clamp01, max0, tiny};
+use ieee::root::sqrt;
 use std::io;
 use std::io::Stdout;
 
-fn pattern(bytes: &[u8], k: usize) -> u32
-    requires { k * 4 + 4 ≤ length bytes.now }
-{
-    let i = k * 4;
-    word(bytes[i], bytes[i + 1], bytes[i + 2], bytes[i + 3])
-}
-
-fn word(a: u8, b: u8, c: u8, d: u8) -> u32 {
-    a as u32 + b as u32 * 256 + c as u32 * 65536 + d as u32 * 16777216
-}
-
-fn flag(b: bool) -> u32 {
-    if b { 1 } else { 0 }
-}
+const MOST: usize = 524288;
 
 fn low(n: usize) -> u32 {
     (n % 4294967296) as u32
 }
 
-// What leaf k answers at a pattern, as a word. The order is that of the lines.
-fn answer(k: u32, bits: u32) -> u32 {
-    let x = ieee::bits::float_of(bits);
-    match k {
-        0 => ieee::bits::bits_of(x),
-        1 => flag(ieee::bits::is_finite(x)),
-        2 => ieee::bits::bits_of(ieee::range::clamp01(x)),
-        3 => ieee::bits::bits_of(ieee::range::max0(x)),
-        4 => ieee::bits::bits_of(ieee::range::abs(x)),
-        5 => flag(ieee::range::tiny(x)),
-        6 => digest::int_bits(ieee::cast::floor_i32(x)),
-        7 => digest::int_bits(ieee::cast::ceil_i32(x)),
-        8 => ieee::cast::byte(x) as u32,
-        9 => ieee::cast::unit_byte(x) as u32,
-        10 => low(ieee::cast::texel(x, 1)),
-        11 => low(ieee::cast::texel(x, 7)),
-        12 => low(ieee::cast::texel(x, 1024)),
-        13 => ieee::cast::first(x),
-        14 => ieee::cast::past(x),
-        _ => ieee::bits::bits_of(ieee::root::sqrt(x)),
+// What the leaf answers at each pattern, as a word.
+fn line<F: Fn(f32) -> u32>(out: Stdout, patterns: &[u32], name: &str, leaf: F) -> io::Result<()>
+    requires { F.IsAlwaysCallable leaf }
+{
+    let mut digest = digest::START;
+    for bits in patterns {
+        digest = digest::word(digest, leaf(float_of(*bits)));
     }
+    println!(out; "{name} {digest:016x}")
 }
 
-fn digest_of(k: u32, bytes: &[u8]) -> u64 {
-    let n = bytes.len() / 4;
-    let mut h = digest::START;
-    let mut i: usize = 0;
-    while i < n {
-        h = digest::word(h, answer(k, pattern(bytes, i)));
-        i += 1;
-    }
-    h
-}
-
-fn line(out: Stdout, name: &[u8], k: u32, bytes: &[u8]) -> io::Result<()> {
-    console::write_all(out, name)?;
-    console::write_all(out, b" ")?;
-    console::print_hex(out, digest_of(k, bytes), 16)?;
-    console::write_all(out, b"\n")
-}
-
-fn lines(out: Stdout, bytes: &[u8]) -> io::Result<()> {
-    line(out, b"float_of", 0, bytes)?;
-    line(out, b"is_finite", 1, bytes)?;
-    line(out, b"clamp01", 2, bytes)?;
-    line(out, b"max0", 3, bytes)?;
-    line(out, b"abs", 4, bytes)?;
-    line(out, b"tiny", 5, bytes)?;
-    line(out, b"floor_i32", 6, bytes)?;
-    line(out, b"ceil_i32", 7, bytes)?;
-    line(out, b"byte", 8, bytes)?;
-    line(out, b"unit_byte", 9, bytes)?;
-    line(out, b"texel1", 10, bytes)?;
-    line(out, b"texel7", 11, bytes)?;
-    line(out, b"texel1024", 12, bytes)?;
-    line(out, b"first", 13, bytes)?;
-    line(out, b"past", 14, bytes)?;
-    line(out, b"sqrt", 15, bytes)
-}
-
-fn replayed(rt: &HostRuntime, bytes: &mut [u8]) -> io::Result<()> {
-    let got = console::read_full(&mut rt.stdin(), bytes)?;
-    lines(rt.stdout(), &bytes[..got])
+fn lines(out: Stdout, patterns: &[u32]) -> io::Result<()> {
+    line(out, patterns, "float_of", |x| bits_of(x))?;
+    line(out, patterns, "is_finite", |x| u32::from(is_finite(x)))?;
+    line(out, patterns, "clamp01", |x| bits_of(clamp01(x)))?;
+    line(out, patterns, "max0", |x| bits_of(max0(x)))?;
+    line(out, patterns, "abs", |x| bits_of(abs(x)))?;
+    line(out, patterns, "tiny", |x| u32::from(tiny(x)))?;
+    line(out, patterns, "floor_i32", |x| floor_i32(x).cast_unsigned())?;
+    line(out, patterns, "ceil_i32", |x| ceil_i32(x).cast_unsigned())?;
+    line(out, patterns, "byte", |x| u32::from(byte(x)))?;
+    line(out, patterns, "unit_byte", |x| u32::from(unit_byte(x)))?;
+    line(out, patterns, "texel1", |x| low(texel(x, 1)))?;
+    line(out, patterns, "texel7", |x| low(texel(x, 7)))?;
+    line(out, patterns, "texel1024", |x| low(texel(x, 1024)))?;
+    line(out, patterns, "first", first)?;
+    line(out, patterns, "past", past)?;
+    line(out, patterns, "sqrt", |x| bits_of(sqrt(x)))
 }
 
 fn main(rt: HostRuntime) -> io::Result<()> {
-    let mut bytes = [0u8; 524288];
-    replayed(&rt, &mut bytes)
+    let mut bytes = vec![in rt.alloc(); 0u8; MOST]?;
+    let mut patterns = vec![in rt.alloc(); 0u32; MOST / 4]?;
+    let got = console::read_full(&mut rt.stdin(), &mut bytes)?;
+    let n = words::words_of(&bytes[..got], &mut patterns);
+    lines(rt.stdout(), &patterns[..n])
 }

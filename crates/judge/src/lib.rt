@@ -4,121 +4,51 @@
 
 pub mod model;
 
-ghost use Rattle.std.specs.Prelude.{◌≡◌, true, ◌≤◌, length, get_or};
-ghost use Rattle.payload.specs.Words.{when_done};
-ghost use Rattle.decide.specs.Corners.{words_of, corners_of, normal_matrix_of};
-ghost use Rattle.decide.specs.Verdicts.{textured_verdict};
-ghost use Rattle.decide.specs.Checked.{blank};
-ghost use Rattle.judge.specs.Judge.{held_in, named_verdict, slot_by};
+ghost use Rattle.std.specs.Prelude.{◌≡◌, true, ◌≤◌, length};
+ghost use Rattle.payload.specs.Words.{passed};
+ghost use Rattle.decide.specs.Corners.{words_of, normal_matrix_of};
+ghost use Rattle.judge.specs.Judge.{named_verdict, slot_by, judged_by};
 
 use clip::vertex::ClipVertex;
-use decide::corner::normal_matrix;
-use decide::verdicts::{Checked, blank_corners};
 use payload::at_most;
-use store::{Found, SLOTS, Slot};
-use vector::normal::Inverse;
+use store::{SLOTS, Slot};
+use vector::normal::Matrix3;
 use verdict::{Verdict, not_held};
 
-// What the mode and the number come to, and the slot under the number.
-#[derive(Clone, Copy)]
-pub struct Named {
-    pub verdict: Verdict,
-    pub slot: Slot,
-}
-
-// The first two checks of 18, 19 and 1B: the mode, which is word 1, and then the number, word 0.
-pub fn mode_and_number(p: &[u32], slots: [Slot; SLOTS]) -> Named
+// The first two checks of 18, 19 and 1B, and the slot under the number: the mode, which is word 1,
+// and then the number, word 0.
+#[tactic(auto, unfolding(crate::specs::Judge::named_verdict, crate::specs::Judge::slot_by))]
+pub fn mode_and_number(p: &[u32], slots: [Slot; SLOTS]) -> Verdict<Slot>
     requires { 2 ≤ length p.now }
-    ensures verdict_value { result.verdict ≡ named_verdict p.now slots }
-    ensures slot_value { result.slot ≡ slot_by p.now slots }
+    ensures { result ≡ passed (named_verdict p.now slots) (slot_by p.now slots) }
 {
-    let mode = at_most(p, 1, 2);
-    let Verdict::Done = mode else {
-        return Named {
-            verdict: mode,
-            slot: Slot::unused(),
-        };
-    };
-    let found = store::slots::find(slots, p[0]);
-    let Found::At(slot) = found else {
-        return Named {
-            verdict: not_held(),
-            slot: Slot::unused(),
-        };
-    };
-    Named {
-        verdict: Verdict::Done,
-        slot,
-    }
+    at_most(p, 1, 2)?;
+    store::slots::find(slots, p[0]).ok_or(not_held())
 }
 
-// A verdict, with what is to be lit and painted if it is "done": the corners, and the texture's
-// slot. If not, nobody reads them.
-#[derive(Clone, Copy)]
+// What is to be lit and painted: the texture's slot, and the corners.
+#[derive(Clone, Copy, Debug, PartialEq)]
 pub struct Judged {
-    pub verdict: Verdict,
     pub slot: Slot,
     pub corners: [ClipVertex; 3],
 }
 
-fn refused(verdict: Verdict, slot: Slot) -> Judged
-    ensures verdict_value { result.verdict ≡ verdict }
-    ensures slot_value { result.slot ≡ slot }
-    ensures corners_value { result.corners ≡ blank }
+// 18, and with normals 19; a triangle of a model is judged as a 19. The matrix for normals is asked
+// for if the mode and the number passed: a 19 works it out then, and the records of a model share one.
+#[tactic(auto, unfolding(crate::specs::Judge::judged_by, crate::specs::Judge::named_verdict, decide::specs::Verdicts::textured_verdict))]
+pub fn textured<F: FnOnce() -> Option<Matrix3>>(
+    p: &[u32],
+    has_normal: bool,
+    m: &[f32; 48],
+    inverse: F,
+    slots: [Slot; SLOTS],
+) -> Verdict<Judged>
+    requires p_len { length p.now ≡ words_of has_normal true }
+    requires inverse_callable { F.IsAlwaysCallable inverse }
+    requires inverse_value { (r : _) → F.post inverse r → r ≡ normal_matrix_of m.now has_normal }
+    ensures { result ≡ judged_by p.now has_normal m.now slots }
 {
-    Judged {
-        verdict,
-        slot,
-        corners: blank_corners(),
-    }
-}
-
-fn with_slot(checked: Checked, slot: Slot) -> Judged
-    ensures verdict_value { result.verdict ≡ checked.verdict }
-    ensures slot_value { result.slot ≡ slot }
-    ensures corners_value { result.corners ≡ checked.corners }
-{
-    let verdict = checked.verdict;
-    let corners = checked.corners;
-    Judged {
-        verdict,
-        slot,
-        corners,
-    }
-}
-
-// 18, and with normals 19.
-pub fn textured(p: &[u32], has_normal: bool, m: &[f32; 48], slots: [Slot; SLOTS]) -> Judged
-    requires { length p.now ≡ words_of has_normal true }
-    ensures verdict_value { result.verdict ≡ textured_verdict p.now has_normal (held_in slots (get_or p.now 0 0)) m.now }
-    ensures slot_value { result.slot ≡ slot_by p.now slots }
-    ensures corners_value { result.corners ≡ when_done result.verdict (corners_of p.now has_normal true m.now) blank }
-{
-    let named = mode_and_number(p, slots);
-    let first = named.verdict;
-    let slot = named.slot;
-    let Verdict::Done = first else {
-        return refused(first, slot);
-    };
-    let inverse = normal_matrix(m, has_normal);
-    let checked = decide::verdicts::textured(p, has_normal, m, inverse);
-    with_slot(checked, slot)
-}
-
-// A triangle of a model, which is judged as a 19, with the matrix for normals handed in.
-pub fn model_triangle(p: &[u32], m: &[f32; 48], inverse: Inverse, slots: [Slot; SLOTS]) -> Judged
-    requires p_len { length p.now ≡ 29 }
-    requires inverse_value { inverse ≡ normal_matrix_of m.now true }
-    ensures verdict_value { result.verdict ≡ textured_verdict p.now true (held_in slots (get_or p.now 0 0)) m.now }
-    ensures slot_value { result.slot ≡ slot_by p.now slots }
-    ensures corners_value { result.corners ≡ when_done result.verdict (corners_of p.now true true m.now) blank }
-{
-    let named = mode_and_number(p, slots);
-    let first = named.verdict;
-    let slot = named.slot;
-    let Verdict::Done = first else {
-        return refused(first, slot);
-    };
-    let checked = decide::verdicts::textured(p, true, m, inverse);
-    with_slot(checked, slot)
+    let slot = mode_and_number(p, slots)?;
+    let corners = decide::verdicts::textured(p, has_normal, m, inverse())?;
+    Ok(Judged { slot, corners })
 }

@@ -1,5 +1,4 @@
 pub mod Walk
-pub mod Three
 pub mod Zeros
 pub mod Alike
 pub mod Either

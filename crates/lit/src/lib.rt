@@ -6,126 +6,103 @@ ghost use Rattle.lit.specs.Lit.{with_color, shaded_by, lit_each, mean_normal, on
 
 use clip::vertex::ClipVertex;
 use light::{Light, shade_three, shade_vertex};
-use vector::three::normalize;
+use vector::three::{minus, normalize, plus};
 
 fn with_color(v: ClipVertex, color: [f32; 4]) -> ClipVertex
     ensures { result ≡ with_color v color }
 {
-    let mut w = v;
-    w.color = color;
-    w
+    ClipVertex { color, ..v }
 }
 
-fn shaded(v: ClipVertex, normal: [f32; 3], lights: [Light; 8]) -> [f32; 4]
-    ensures { result ≡ shaded_by lights v normal }
+fn shaded(v: ClipVertex, normal: [f32; 3], lights: &[Light; 8]) -> [f32; 4]
+    ensures { result ≡ shaded_by lights.now v normal }
 {
-    let color = v.color;
-    let position = v.view_position;
-    shade_vertex(color, position, normal, lights)
+    shade_vertex(v.color, v.view_position, normal, lights)
 }
 
 // The vertex lit by the face's normal.
-fn face_lit(v: ClipVertex, normal: [f32; 3], lights: [Light; 8]) -> ClipVertex
-    ensures { result ≡ face_lit lights normal v }
+fn face_lit(v: ClipVertex, normal: [f32; 3], lights: &[Light; 8]) -> ClipVertex
+    ensures { result ≡ face_lit lights.now normal v }
 {
     with_color(v, shaded(v, normal, lights))
 }
 
+#[tactic(auto, unfolding(crate::specs::Lit::mean_normal))]
 fn mean_normal(tri: [ClipVertex; 3]) -> [f32; 3]
     ensures { result ≡ mean_normal tri }
 {
-    let v0 = tri[0];
-    let v1 = tri[1];
-    let v2 = tri[2];
-    normalize([
-        v0.normal[0] + v1.normal[0] + v2.normal[0],
-        v0.normal[1] + v1.normal[1] + v2.normal[1],
-        v0.normal[2] + v1.normal[2] + v2.normal[2],
-    ])
+    let [v0, v1, v2] = tri;
+    normalize(plus(plus(v0.normal, v1.normal), v2.normal))
 }
 
 fn one_color(tri: [ClipVertex; 3], color: [f32; 4]) -> [ClipVertex; 3]
     ensures { result ≡ one_color tri color }
 {
+    let [v0, v1, v2] = tri;
     [
-        with_color(tri[0], color),
-        with_color(tri[1], color),
-        with_color(tri[2], color),
+        with_color(v0, color),
+        with_color(v1, color),
+        with_color(v2, color),
     ]
 }
 
 // Each vertex by the normal that is given for it.
-fn lit_each(tri: [ClipVertex; 3], normals: [[f32; 3]; 3], lights: [Light; 8]) -> [ClipVertex; 3]
-    ensures { result ≡ lit_each lights normals tri }
+fn lit_each(tri: [ClipVertex; 3], normals: [[f32; 3]; 3], lights: &[Light; 8]) -> [ClipVertex; 3]
+    ensures { result ≡ lit_each lights.now normals tri }
 {
-    let v0 = tri[0];
-    let v1 = tri[1];
-    let v2 = tri[2];
-    let albedo0 = v0.color;
-    let albedo1 = v1.color;
-    let albedo2 = v2.color;
-    let position0 = v0.view_position;
-    let position1 = v1.view_position;
-    let position2 = v2.view_position;
-    let colors = shade_three(
+    let [v0, v1, v2] = tri;
+    let (albedo0, albedo1, albedo2) = (v0.color, v1.color, v2.color);
+    let (position0, position1, position2) = (v0.view_position, v1.view_position, v2.view_position);
+    let [color0, color1, color2] = shade_three(
         [albedo0, albedo1, albedo2],
         [position0, position1, position2],
         normals,
         lights,
     );
     [
-        with_color(v0, colors[0]),
-        with_color(v1, colors[1]),
-        with_color(v2, colors[2]),
+        with_color(v0, color0),
+        with_color(v1, color1),
+        with_color(v2, color2),
     ]
 }
 
-fn own_lit_each(tri: [ClipVertex; 3], lights: [Light; 8]) -> [ClipVertex; 3]
-    ensures { result ≡ each_lit (own_lit lights) tri }
+fn own_lit_each(tri: [ClipVertex; 3], lights: &[Light; 8]) -> [ClipVertex; 3]
+    ensures { result ≡ each_lit (own_lit lights.now) tri }
 {
-    let v0 = tri[0];
-    let v1 = tri[1];
-    let v2 = tri[2];
-    let normal0 = v0.normal;
-    let normal1 = v1.normal;
-    let normal2 = v2.normal;
+    let [v0, v1, v2] = tri;
+    let (normal0, normal1, normal2) = (v0.normal, v1.normal, v2.normal);
     lit_each(tri, [normal0, normal1, normal2], lights)
 }
 
 // 14 and 16.
+#[tactic(auto, unfolding(crate::specs::Lit::transformed_lit))]
 pub fn transformed_lit(
     tri: [ClipVertex; 3],
     has_normal: bool,
     lighting_enabled: bool,
     shading_mode: u32,
-    lights: [Light; 8],
+    lights: &[Light; 8],
 ) -> [ClipVertex; 3]
-    ensures { result ≡ transformed_lit lighting_enabled shading_mode lights has_normal tri }
+    ensures { result ≡ transformed_lit lighting_enabled shading_mode lights.now has_normal tri }
 {
-    if has_normal {
-        if lighting_enabled {
-            if shading_mode == 0 {
-                let v = tri[0];
-                let color = shaded(v, mean_normal(tri), lights);
-                return one_color(tri, color);
-            }
-            return own_lit_each(tri, lights);
-        }
+    if !has_normal || !lighting_enabled {
+        return tri;
     }
-    tri
+    if shading_mode == 0 {
+        let color = shaded(tri[0], mean_normal(tri), lights);
+        return one_color(tri, color);
+    }
+    own_lit_each(tri, lights)
 }
 
 // `edge_a` and `edge_b`.
 fn edge(a: ClipVertex, b: ClipVertex) -> [f32; 3]
     ensures { result ≡ edge_of a b }
 {
-    [
-        b.view_position[0] - a.view_position[0],
-        b.view_position[1] - a.view_position[1],
-        b.view_position[2] - a.view_position[2],
-    ]
+    minus(b.view_position, a.view_position)
 }
 
+#[tactic(auto, unfolding(crate::specs::Lit::cross_of))]
 fn cross(a: [f32; 3], b: [f32; 3]) -> [f32; 3]
     ensures { result ≡ cross_of a b }
 {
@@ -136,37 +113,35 @@ fn cross(a: [f32; 3], b: [f32; 3]) -> [f32; 3]
     ])
 }
 
+#[tactic(auto, unfolding(crate::specs::Lit::face_normal))]
 fn face_normal(tri: [ClipVertex; 3]) -> [f32; 3]
     ensures { result ≡ face_normal tri }
 {
-    let v0 = tri[0];
-    let v1 = tri[1];
-    let v2 = tri[2];
+    let [v0, v1, v2] = tri;
     cross(edge(v0, v1), edge(v0, v2))
 }
 
-fn face_lit_each(tri: [ClipVertex; 3], normal: [f32; 3], lights: [Light; 8]) -> [ClipVertex; 3]
-    ensures { result ≡ each_lit (face_lit lights normal) tri }
+fn face_lit_each(tri: [ClipVertex; 3], normal: [f32; 3], lights: &[Light; 8]) -> [ClipVertex; 3]
+    ensures { result ≡ each_lit (face_lit lights.now normal) tri }
 {
-    lit_each(tri, [normal, normal, normal], lights)
+    lit_each(tri, [normal; 3], lights)
 }
 
 // 18 and 19. Mode 0 is not lit, and in mode 1 only vertex 0 is.
+#[tactic(auto, unfolding(crate::specs::Lit::textured_lit))]
 pub fn textured_lit(
     tri: [ClipVertex; 3],
     has_normal: bool,
     lighting_enabled: bool,
     mode: u32,
-    lights: [Light; 8],
+    lights: &[Light; 8],
 ) -> [ClipVertex; 3]
-    ensures { result ≡ textured_lit lighting_enabled mode lights has_normal tri }
+    ensures { result ≡ textured_lit lighting_enabled mode lights.now has_normal tri }
 {
     if lighting_enabled {
         if mode == 1 {
-            let v = tri[0];
-            let mut lit = tri;
-            lit[0] = face_lit(v, face_normal(tri), lights);
-            return lit;
+            let [v0, v1, v2] = tri;
+            return [face_lit(v0, face_normal(tri), lights), v1, v2];
         }
         if mode == 2 {
             if has_normal {

@@ -4,7 +4,8 @@
 ghost use Rattle.std.specs.Prelude.{◌≡◌, ◌+◌, ◌≤◌, ◌<◌, length};
 ghost use Rattle.payload.specs.Words.{three_at, at_most, finite_from, color_of};
 
-use verdict::{Reason, Verdict};
+use ieee::number::unit_float;
+use verdict::{Reason, Refused, Verdict, out_of_range};
 
 pub fn three_at(p: &[u32], i: usize) -> [f32; 3]
     requires { i + 3 ≤ length p.now }
@@ -24,11 +25,9 @@ pub fn at_most(p: &[u32], i: usize, most: u32) -> Verdict
     ensures { result ≡ at_most p.now i most }
 {
     if p[i] <= most {
-        return Verdict::Done;
-    }
-    Verdict::Refused {
-        reason: Reason::OutOfRange,
-        index: i as u32,
+        Ok(())
+    } else {
+        Err(out_of_range(i as u32))
     }
 }
 
@@ -38,28 +37,27 @@ pub fn finite_from(p: &[u32], start: usize, n: usize) -> Verdict
     requires p_len_bound { length p.now ≤ 4294967295 }
     ensures { result ≡ finite_from p.now start n }
 {
-    let mut i = start;
-    let end = start + n;
-    while i < end {
+    for i in start..start + n {
         if !ieee::bits::finite_bits(p[i]) {
-            return Verdict::Refused {
+            return Err(Refused {
                 reason: Reason::NotFinite,
                 index: i as u32,
-            };
+            });
         }
-        i += 1;
     }
-    Verdict::Done
+    Ok(())
 }
 
 // RGBA, red in the top byte, as floats from 0.0 to 1.0.
+#[tactic(auto, unfolding(crate::specs::Words::color_of))]
 pub fn color_of(word: u32) -> [f32; 4]
     ensures { result ≡ color_of word }
 {
+    let [red, green, blue, alpha] = word.to_be_bytes();
     [
-        ieee::number::unit_float((word / 16777216) as u8),
-        ieee::number::unit_float((word / 65536 % 256) as u8),
-        ieee::number::unit_float((word / 256 % 256) as u8),
-        ieee::number::unit_float((word % 256) as u8),
+        unit_float(red),
+        unit_float(green),
+        unit_float(blue),
+        unit_float(alpha),
     ]
 }

@@ -7,7 +7,7 @@ use native.Mathlib.Omega.{arith}
 use borrow.Author.Tests.{leb-true}
 use Rattle.light.specs.declared.Light.{Light}
 use Rattle.store.specs.declared.Slot.{Slot}
-use Rattle.settings.specs.Settings.{all_of}
+use Rattle.std.specs.List.{list_all}
 use Rattle.state.specs.declared.State.{State}
 use Rattle.plain.specs.Plain.{switch_of, is_on, is_switch, light_in, light_out, slot_in, slot_out, state_in, state_out, light_switch, slot_switch, switches_ok}
 use Rattle.plain.specs.declared.VpuLight.{VpuLight}
@@ -34,15 +34,13 @@ module _ {A B : Type 0} (f : A → B) (g : B → A) where
   map_back h [] = refl
   map_back h (a ∷ l) = rw (h a, map_back h l)
 
-  map_back_where : (ok : A → Bool) → ((a : A) → ok a ≡ true → g (f a) ≡ a) → (l : List A) → all_of ok l ≡ true → map g (map f l) ≡ l
-  unfolding all_of
+  map_back_where : (ok : A → Bool) → ((a : A) → ok a ≡ true → g (f a) ≡ a) → (l : List A) → list_all ok l ≡ true → map g (map f l) ≡ l
   map_back_where ok h [] e = refl
   map_back_where ok h (a ∷ l) e =
-      let both = (and-eq-true_iff (ok a) (all_of ok l)).0 e in
+      let both = (and-eq-true_iff (ok a) (list_all ok l)).0 e in
       rw (h a both.0, map_back_where ok h l both.1)
 
-all_map : {A B : Type 0} (f : A → B) (ok : B → Bool) → ((a : A) → ok (f a) ≡ true) → (l : List A) → all_of ok (map f l) ≡ true
-unfolding all_of
+all_map : {A B : Type 0} (f : A → B) (ok : B → Bool) → ((a : A) → ok (f a) ≡ true) → (l : List A) → list_all ok (map f l) ≡ true
 all_map f ok h [] = refl
 all_map f ok h (a ∷ l) = rw (h a, all_map f ok h l)
 
@@ -83,8 +81,8 @@ pub out_in : (v : VpuState) → switches_ok v ≡ true → state_out (state_in v
 unfolding switches_ok
 out_in v e =
     let a = (and-eq-true_iff (is_switch v.lighting_enabled) _).0 e in
-    let b = (and-eq-true_iff (all_of light_switch v.lights) _).0 a.1 in
-    let c = (and-eq-true_iff (all_of slot_switch v.textures) (all_of slot_switch v.models)).0 b.1 in
+    let b = (and-eq-true_iff (list_all light_switch v.lights) _).0 a.1 in
+    let c = (and-eq-true_iff (list_all slot_switch v.textures) (list_all slot_switch v.models)).0 b.1 in
     rw (
       same_switch v.lighting_enabled a.0,
       map_back_where light_in light_out light_switch light_same v.lights b.0,

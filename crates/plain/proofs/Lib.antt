@@ -1,2 +1,2 @@
 pub mod Back
-pub mod Switches
+pub mod Mapped

@@ -3,7 +3,7 @@ use Rattle.std.specs.Prelude.{ℕ, Bool, true, false, not, ◌&&◌, [], ◌∷�
 use Rattle.screen.specs.Plane.{Answered}
 use Rattle.light.specs.declared.Light.{Light}
 use Rattle.store.specs.declared.Slot.{Slot}
-use Rattle.settings.specs.Settings.{all_of}
+use Rattle.std.specs.List.{list_all}
 use Rattle.state.specs.declared.State.{State}
 use Rattle.plain.specs.declared.VpuLight.{VpuLight}
 use Rattle.plain.specs.declared.VpuSlot.{VpuSlot}
@@ -90,7 +90,7 @@ slot_switch s = is_switch s.held
 unfoldable pub switches_ok : VpuState → Bool
 switches_ok v =
     is_switch v.lighting_enabled
-    && (all_of light_switch v.lights && (all_of slot_switch v.textures && all_of slot_switch v.models))
+    && (list_all light_switch v.lights && (list_all slot_switch v.textures && list_all slot_switch v.models))
 
 -- a pixel: the number and the four bytes of the answer
 abbrev pub shown : VpuColour → Answered

@@ -4,18 +4,18 @@
 
 ghost use Rattle.std.specs.Prelude.{◌≡◌, map};
 ghost use Rattle.screen.specs.Plane.{answered};
-ghost use Rattle.settings.specs.Settings.{all_of};
+ghost use Rattle.std.specs.List.{list_all};
 ghost use Rattle.plain.specs.Plain.{switch_of, light_in, light_out, slot_in, slot_out, state_in, state_out, light_switch, slot_switch, switches_ok, shown};
 
 use light::Light;
-use screen::plane::Read;
+use screen::plane::{Rgba, WrongLength};
 use settings::Settings;
 use state::State;
 use store::{SLOTS, Slot};
 use verdict::Notes;
 
 #[repr(C)]
-#[derive(Clone, Copy)]
+#[derive(Clone, Copy, Debug, PartialEq)]
 pub struct VpuLight {
     pub enabled: u8,
     pub ambient: [f32; 3],
@@ -37,7 +37,7 @@ impl VpuLight {
 }
 
 #[repr(C)]
-#[derive(Clone, Copy)]
+#[derive(Clone, Copy, Debug, PartialEq)]
 pub struct VpuSlot {
     pub held: u8,
     pub number: u32,
@@ -57,7 +57,7 @@ impl VpuSlot {
 }
 
 #[repr(C)]
-#[derive(Clone, Copy)]
+#[derive(Clone, Copy, Debug, PartialEq)]
 pub struct VpuState {
     pub matrices: [f32; 48],
     pub shading_mode: u32,
@@ -72,7 +72,7 @@ pub struct VpuState {
 }
 
 #[repr(C)]
-#[derive(Clone, Copy)]
+#[derive(Clone, Copy, Debug, PartialEq)]
 pub struct VpuColour {
     pub answer: u32,
     pub r: u8,
@@ -81,80 +81,88 @@ pub struct VpuColour {
     pub a: u8,
 }
 
-fn switch_of(b: bool) -> u8
-    ensures { result ≡ switch_of b }
-{
-    if b { 1 } else { 0 }
-}
+impl From<VpuLight> for Light {
+    ghost from_gives = { λ l r. r ≡ light_in l };
 
-fn light_in(l: VpuLight) -> Light
-    ensures { result ≡ light_in l }
-{
-    let ambient = l.ambient;
-    let diffuse = l.diffuse;
-    let specular = l.specular;
-    let emission = l.emission;
-    let position = l.position;
-    Light {
-        enabled: l.enabled != 0,
-        ambient,
-        diffuse,
-        specular,
-        emission,
-        position,
+    fn from(l: VpuLight) -> Light {
+        let VpuLight {
+            enabled,
+            ambient,
+            diffuse,
+            specular,
+            emission,
+            position,
+        } = l;
+        Light {
+            enabled: enabled != 0,
+            ambient,
+            diffuse,
+            specular,
+            emission,
+            position,
+        }
     }
 }
 
-fn light_out(l: Light) -> VpuLight
-    ensures { result ≡ light_out l }
-{
-    let ambient = l.ambient;
-    let diffuse = l.diffuse;
-    let specular = l.specular;
-    let emission = l.emission;
-    let position = l.position;
-    VpuLight {
-        enabled: switch_of(l.enabled),
-        ambient,
-        diffuse,
-        specular,
-        emission,
-        position,
+impl From<Light> for VpuLight {
+    ghost from_gives = { λ l r. r ≡ light_out l };
+
+    fn from(l: Light) -> VpuLight {
+        let Light {
+            enabled,
+            ambient,
+            diffuse,
+            specular,
+            emission,
+            position,
+        } = l;
+        VpuLight {
+            enabled: u8::from(enabled),
+            ambient,
+            diffuse,
+            specular,
+            emission,
+            position,
+        }
     }
 }
 
-fn slot_in(s: VpuSlot) -> Slot
-    ensures { result ≡ slot_in s }
-{
-    Slot {
-        held: s.held != 0,
-        number: s.number,
-        width: s.width,
-        height: s.height,
-        start: s.start,
+impl From<VpuSlot> for Slot {
+    ghost from_gives = { λ s r. r ≡ slot_in s };
+
+    fn from(s: VpuSlot) -> Slot {
+        Slot {
+            held: s.held != 0,
+            number: s.number,
+            width: s.width,
+            height: s.height,
+            start: s.start,
+        }
     }
 }
 
-fn slot_out(s: Slot) -> VpuSlot
-    ensures { result ≡ slot_out s }
-{
-    VpuSlot {
-        held: switch_of(s.held),
-        number: s.number,
-        width: s.width,
-        height: s.height,
-        start: s.start,
+impl From<Slot> for VpuSlot {
+    ghost from_gives = { λ s r. r ≡ slot_out s };
+
+    fn from(s: Slot) -> VpuSlot {
+        VpuSlot {
+            held: u8::from(s.held),
+            number: s.number,
+            width: s.width,
+            height: s.height,
+            start: s.start,
+        }
     }
 }
 
+// Arrays are turned element by element.
+// Stays: an array's `map` moves each element through an Option, and takes three times as long here.
 fn lights_in(lights: [VpuLight; 8]) -> [Light; 8]
     ensures { result ≡ map light_in lights }
 {
     let mut out = [Light::DISABLED; 8];
-    let mut i: usize = 0;
-    while i < 8 {
-        out[i] = light_in(lights[i]);
-        i += 1;
+    for i in 0..8 {
+        out[i] = Light::from(lights[i]);
     }
     out
 }
@@ -163,10 +171,8 @@ fn lights_out(lights: [Light; 8]) -> [VpuLight; 8]
     ensures { result ≡ map light_out lights }
 {
     let mut out = [VpuLight::DARK; 8];
-    let mut i: usize = 0;
-    while i < 8 {
-        out[i] = light_out(lights[i]);
-        i += 1;
+    for i in 0..8 {
+        out[i] = VpuLight::from(lights[i]);
     }
     out
 }
@@ -175,10 +181,8 @@ fn slots_in(slots: [VpuSlot; SLOTS]) -> [Slot; SLOTS]
     ensures { result ≡ map slot_in slots }
 {
     let mut out = [Slot::UNUSED; SLOTS];
-    let mut i: usize = 0;
-    while i < SLOTS {
-        out[i] = slot_in(slots[i]);
-        i += 1;
+    for i in 0..SLOTS {
+        out[i] = Slot::from(slots[i]);
     }
     out
 }
@@ -187,126 +191,106 @@ fn slots_out(slots: [Slot; SLOTS]) -> [VpuSlot; SLOTS]
     ensures { result ≡ map slot_out slots }
 {
     let mut out = [VpuSlot::UNUSED; SLOTS];
-    let mut i: usize = 0;
-    while i < SLOTS {
-        out[i] = slot_out(slots[i]);
-        i += 1;
+    for i in 0..SLOTS {
+        out[i] = VpuSlot::from(slots[i]);
     }
     out
 }
 
-pub fn state_in(s: VpuState) -> State
-    ensures { result ≡ state_in s }
-{
-    let matrices = s.matrices;
-    let lights = s.lights;
-    let textures = s.textures;
-    let models = s.models;
-    State {
-        settings: Settings {
+impl From<VpuState> for State {
+    ghost from_gives = { λ v s. s ≡ state_in v };
+
+    fn from(v: VpuState) -> State {
+        let matrices = v.matrices;
+        let lights = v.lights;
+        let textures = v.textures;
+        let models = v.models;
+        let settings = Settings {
             matrices,
-            shading_mode: s.shading_mode,
-            lighting_enabled: s.lighting_enabled != 0,
+            shading_mode: v.shading_mode,
+            lighting_enabled: v.lighting_enabled != 0,
             lights: lights_in(lights),
-        },
-        textures: slots_in(textures),
-        models: slots_in(models),
-        opcode: s.opcode,
-        gathered: s.gathered,
-        wanted: s.wanted,
-        notes: Notes { status: s.status },
-    }
-}
-
-pub fn state_out(s: State) -> VpuState
-    ensures { result ≡ state_out s }
-{
-    let set = s.settings;
-    let matrices = set.matrices;
-    let lights = set.lights;
-    let textures = s.textures;
-    let models = s.models;
-    let notes = s.notes;
-    VpuState {
-        matrices,
-        shading_mode: set.shading_mode,
-        lighting_enabled: switch_of(set.lighting_enabled),
-        lights: lights_out(lights),
-        textures: slots_out(textures),
-        models: slots_out(models),
-        opcode: s.opcode,
-        gathered: s.gathered,
-        wanted: s.wanted,
-        status: notes.status,
-    }
-}
-
-#[tactic(auto, using(crate::proofs::Switches::light_found, crate::proofs::Switches::light_passed))]
-fn lights_ok(lights: [VpuLight; 8]) -> bool
-    ensures { result ≡ all_of light_switch lights }
-{
-    let mut i: usize = 0;
-    while i < 8 {
-        let l = lights[i];
-        if l.enabled > 1 {
-            return false;
+        };
+        State {
+            settings,
+            textures: slots_in(textures),
+            models: slots_in(models),
+            opcode: v.opcode,
+            gathered: v.gathered,
+            wanted: v.wanted,
+            notes: Notes { status: v.status },
         }
-        i += 1;
     }
-    true
 }
 
-fn slots_ok(slots: [VpuSlot; SLOTS]) -> bool
-    ensures { result ≡ all_of slot_switch slots }
-{
-    let mut i: usize = 0;
-    while i < SLOTS {
-        let s = slots[i];
-        if s.held > 1 {
-            return false;
+impl From<State> for VpuState {
+    ghost from_gives = { λ s v. v ≡ state_out s };
+
+    fn from(s: State) -> VpuState {
+        let Settings {
+            matrices,
+            shading_mode,
+            lighting_enabled,
+            lights,
+        } = s.settings;
+        let textures = s.textures;
+        let models = s.models;
+        let notes = s.notes;
+        VpuState {
+            matrices,
+            shading_mode,
+            lighting_enabled: u8::from(lighting_enabled),
+            lights: lights_out(lights),
+            textures: slots_out(textures),
+            models: slots_out(models),
+            opcode: s.opcode,
+            gathered: s.gathered,
+            wanted: s.wanted,
+            status: notes.status,
         }
-        i += 1;
     }
-    true
+}
+
+fn lights_ok(lights: &[VpuLight]) -> bool
+    ensures { result ≡ list_all light_switch lights.now }
+{
+    lights.iter().all(|light| light.enabled <= 1)
+}
+
+fn slots_ok(slots: &[VpuSlot]) -> bool
+    ensures { result ≡ list_all slot_switch slots.now }
+{
+    slots.iter().all(|slot| slot.held <= 1)
 }
 
 // Is each switch 0 or 1?
+#[tactic(auto, unfolding(crate::specs::Plain::switches_ok))]
 pub fn switches_ok(s: VpuState) -> bool
     ensures { result ≡ switches_ok s }
 {
-    if s.lighting_enabled > 1 {
-        return false;
-    }
-    let lights = s.lights;
-    if !lights_ok(lights) {
-        return false;
-    }
-    let textures = s.textures;
-    if !slots_ok(textures) {
-        return false;
-    }
-    let models = s.models;
-    slots_ok(models)
+    s.lighting_enabled <= 1 && lights_ok(&s.lights) && slots_ok(&s.textures) && slots_ok(&s.models)
 }
 
 // A pixel that was read, or that the plane's length is wrong: 0 or 1, and the four bytes.
-pub fn colour_out(read: Read) -> VpuColour
-    ensures { shown result ≡ answered read }
-{
-    match read {
-        Read::Colour(c) => VpuColour {
-            answer: 0,
-            r: c.r,
-            g: c.g,
-            b: c.b,
-            a: c.a,
-        },
-        Read::WrongLength => VpuColour {
-            answer: 1,
-            r: 0,
-            g: 0,
-            b: 0,
-            a: 0,
-        },
+impl From<Result<Rgba, WrongLength>> for VpuColour {
+    ghost from_gives = { λ read c. shown c ≡ answered read };
+
+    fn from(read: Result<Rgba, WrongLength>) -> VpuColour {
+        match read {
+            Ok(c) => VpuColour {
+                answer: 0,
+                r: c.r,
+                g: c.g,
+                b: c.b,
+                a: c.a,
+            },
+            Err(WrongLength) => VpuColour {
+                answer: 1,
+                r: 0,
+                g: 0,
+                b: 0,
+                a: 0,
+            },
+        }
     }
 }

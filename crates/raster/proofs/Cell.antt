@@ -7,10 +7,11 @@ use Rattle.laws.specs.Cells.{map_range}
 use Rattle.laws.proofs.Cells.{range_swap}
 use Rattle.screen.specs.Plane.{width}
 use Rattle.screen.proofs.Draw.{drawn-none, drawn-one}
-use Rattle.face.specs.declared.Bounds.{Bounds}
+use Rattle.screen.specs.declared.bounds.Bounds.{Bounds}
 use Rattle.face.specs.declared.Face.{Face}
 use Rattle.raster.specs.declared.ink.Ink.{Ink}
-use Rattle.raster.specs.declared.ink.Shade.{Shade}
+use Rattle.std.specs.Prelude.{Option}
+use Rattle.screen.specs.declared.plane.Rgba.{Rgba}
 use Rattle.face.specs.Pixel.{within, covers, bary_of, depth_at, passes_of}
 use Rattle.raster.specs.Ink.{shade_of}
 use Rattle.raster.specs.Raster.{shows_at, shows, new_depth, inked, ink_at}
@@ -65,7 +66,7 @@ module _ (W : List ℕ) (i : Ink) (f : Face) (x y k : ℕ) (D : List Float) (P :
   unfolding shows_at
   drawn_out h = drawn_same (rw h (and-false (within f.bounds x y)))
 
-  pub drawn-new : (z : Float) (s : Shade) (P' : List ℕ) → shows_at f x y (get_or D k nan) ≡ true → depth_at f x y ≡ z → shade_of W i (bary_of f x y) f.inv_w ≡ s → k < length D
+  pub drawn-new : (z : Float) (s : Option Rgba) (P' : List ℕ) → shows_at f x y (get_or D k nan) ≡ true → depth_at f x y ≡ z → shade_of W i (bary_of f x y) f.inv_w ≡ s → k < length D
       → P' ≡ map_range (inked s) (k * 4) (k * 4 + 4) P → FaceDrawn W i f k (k + 1) D P (set D k z) P'
   unfolding shows new_depth ink_at
   drawn-new z s P' h d e l w =

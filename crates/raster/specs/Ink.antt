@@ -1,5 +1,5 @@
 -- What a float triangle leaves at a pixel that it shows at: a colour, or nothing. The original, from the store of the depth to `write_pixel`. Each operation rounds once, in the source's order. Definitions only.
-use Rattle.std.specs.Prelude.{ℕ, ◌+◌, ◌*◌, ◌/◌, ◌≤◌, cond, List, Float}
+use Rattle.std.specs.Prelude.{ℕ, ◌+◌, ◌*◌, ◌/◌, ◌≤◌, cond, Option, Some, None, List, Float}
 use Rattle.ieee.specs.Range.{clamp_of, tiny_of}
 use Rattle.ieee.specs.Number.{unit_of}
 use Rattle.ieee.specs.Casts as casts
@@ -15,8 +15,6 @@ use Rattle.raster.specs.declared.ink.Ink.{Ink}
 use Rattle.raster.specs.declared.ink.Ink.TheVariants.{Flat, Blend, Textured}
 use Rattle.raster.specs.declared.ink.Tone.{Tone}
 use Rattle.raster.specs.declared.ink.Tone.TheVariants.{Plain, Tinted, Mixed}
-use Rattle.raster.specs.declared.ink.Shade.{Shade}
-use Rattle.raster.specs.declared.ink.Shade.TheVariants.{Blank, Of}
 use Rattle.face.specs.Face.{corner}
 use Rattle.face.specs.Pixel.{mix_of}
 
@@ -86,10 +84,10 @@ toned_of (Tinted c) t b = rgba_of (tinted_of (plain_of t) c)
 toned_of (Mixed c) t b = rgba_of (tinted_of (plain_of t) (mixed_of c b))
 
 -- ---- what an ink gives: if the denominator is at most 2^-23 in size, the depth is stored and the pixel is not (the `cond`)
-unfoldable pub shade_of : List ℕ → Ink → Corners → Corners → Shade
-shade_of texels (Flat c) b i = Of c
-shade_of texels (Blend c) b i = cond (tiny_of (mix_of b i)) Blank (Of (rgba_of (blend_of c b i (mix_of b i))))
-shade_of texels (Textured s t) b i = Of (toned_of t (texel_of texels s b) b)
+unfoldable pub shade_of : List ℕ → Ink → Corners → Corners → Option Rgba
+shade_of texels (Flat c) b i = Some c
+shade_of texels (Blend c) b i = cond (tiny_of (mix_of b i)) None (Some (rgba_of (blend_of c b i (mix_of b i))))
+shade_of texels (Textured s t) b i = Some (toned_of t (texel_of texels s b) b)
 
 -- an ink's texture, if it has one, fits into n words
 abbrev pub Stored : Ink → ℕ → Type 0

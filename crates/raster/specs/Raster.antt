@@ -1,15 +1,12 @@
 -- What a float triangle does to each depth and to each byte of the plane: the loops of `rasterize_transformed_triangle` and `rasterize_textured_triangle` of the original. Definitions only.
-use Rattle.std.specs.Prelude.{ℕ, ◌/◌, ◌%◌, Bool, ◌&&◌, List, Float}
+use Rattle.std.specs.Prelude.{ℕ, ◌/◌, ◌%◌, Bool, ◌&&◌, Option, Some, None, List, Float}
 use Rattle.std.specs.Float.{nan}
 use Rattle.laws.specs.Cells.{map_at}
 use Rattle.screen.specs.Plane.{width, paint}
 use Rattle.screen.specs.Draw.{depth_step, byte_step}
 use Rattle.face.specs.declared.Face.{Face}
-use Rattle.face.specs.declared.Setup.{Setup}
-use Rattle.face.specs.declared.Setup.TheVariants.{Drawn, Nothing}
 use Rattle.raster.specs.declared.ink.Ink.{Ink}
-use Rattle.raster.specs.declared.ink.Shade.{Shade}
-use Rattle.raster.specs.declared.ink.Shade.TheVariants.{Blank, Of}
+use Rattle.screen.specs.declared.plane.Rgba.{Rgba}
 use Rattle.face.specs.Pixel.{within, covers, bary_of, depth_at, passes_of}
 use Rattle.raster.specs.Ink.{shade_of}
 
@@ -25,19 +22,19 @@ unfoldable pub new_depth : Face → ℕ → Float
 new_depth f k = depth_at f (k % width) (k / width)
 
 -- `write_pixel`, or its `continue`: byte j of the plane under a shade
-unfoldable pub inked : Shade → ℕ → ℕ → ℕ
-inked Blank j old = old
-inked (Of c) j old = paint c j old
+unfoldable pub inked : Option Rgba → ℕ → ℕ → ℕ
+inked None j old = old
+inked (Some c) j old = paint c j old
 
 -- what an ink leaves in byte j
 unfoldable pub ink_at : List ℕ → Ink → Face → ℕ → ℕ → ℕ
 ink_at texels ink f j old = inked (shade_of texels ink (bary_of f (j / 4 % width) (j / 4 / width)) f.inv_w) j old
 
 -- the depths D and the plane P after a triangle that is set up
-unfoldable pub depths_after : Setup → List Float → List Float
-depths_after (Drawn f) D = map_at (depth_step (shows f) (new_depth f)) D
-depths_after Nothing D = D
+unfoldable pub depths_after : Option Face → List Float → List Float
+depths_after (Some f) D = map_at (depth_step (shows f) (new_depth f)) D
+depths_after None D = D
 
-unfoldable pub plane_after : List ℕ → Ink → Setup → List Float → List ℕ → List ℕ
-plane_after texels ink (Drawn f) D P = map_at (byte_step nan (shows f) (ink_at texels ink f) D) P
-plane_after texels ink Nothing D P = P
+unfoldable pub plane_after : List ℕ → Ink → Option Face → List Float → List ℕ → List ℕ
+plane_after texels ink (Some f) D P = map_at (byte_step nan (shows f) (ink_at texels ink f) D) P
+plane_after texels ink None D P = P

@@ -1,6 +1,6 @@
 // What a triangle is painted with, and the colour that it gives at a pixel.
 ghost use Rattle.std.specs.Prelude.{◌≡◌, ◌*◌, ◌<◌, length};
-ghost use Rattle.raster.specs.Ink.{byte_of, rgba_of, divided_of, blend_of, Texture, place_of, texel_of, plain_of, tinted_of, mixed_of, toned_of, Stored, shade_of, colors_of, sampler_of};
+ghost use Rattle.raster.specs.Ink.{byte_of, rgba_of, divided_of, blend_of, Texture, place_of, texel_of, plain_of, tinted_of, mixed_of, toned_of, Stored, shade_of, channel_of, uv_of, colors_of, sampler_of};
 
 use clip::vertex::ClipVertex;
 use face::Corners;
@@ -8,7 +8,7 @@ use ieee::number::unit_float;
 use screen::plane::Rgba;
 
 // An interpolated colour, or a flat one.
-#[derive(Clone, Copy)]
+#[derive(Clone, Copy, Debug, PartialEq)]
 pub struct Color {
     pub r: f32,
     pub g: f32,
@@ -17,7 +17,7 @@ pub struct Color {
 }
 
 // The corners' colours, channel by channel.
-#[derive(Clone, Copy)]
+#[derive(Clone, Copy, Debug, PartialEq)]
 pub struct Colors {
     pub r: Corners,
     pub g: Corners,
@@ -26,7 +26,7 @@ pub struct Colors {
 }
 
 // A texture's sides, and where the corners are in it.
-#[derive(Clone, Copy)]
+#[derive(Clone, Copy, Debug, PartialEq)]
 pub struct Sampler {
     pub width: u32,
     pub height: u32,
@@ -35,7 +35,7 @@ pub struct Sampler {
 }
 
 // What a texel is multiplied by, in modes 0, 1 and 2: nothing, a flat colour, an interpolated one.
-#[derive(Clone, Copy)]
+#[derive(Clone, Copy, Debug, PartialEq)]
 pub enum Tone {
     Plain,
     Tinted(Color),
@@ -43,19 +43,12 @@ pub enum Tone {
 }
 
 // The words of a texture go beside it.
-#[derive(Clone, Copy)]
+#[derive(Clone, Copy, Debug, PartialEq)]
 pub enum Ink {
     Flat(Rgba),
     // divided by w
     Blend(Colors),
     Textured(Sampler, Tone),
-}
-
-// What an ink gives at a pixel.
-#[derive(Clone, Copy)]
-pub enum Shade {
-    Blank,
-    Of(Rgba),
 }
 
 // The original clamps first, which changes nothing: the cast saturates.
@@ -65,6 +58,7 @@ fn byte_of(v: f32) -> u8
     ieee::cast::unit_byte(v)
 }
 
+#[tactic(auto, unfolding(crate::specs::Ink::rgba_of))]
 pub fn rgba_of(c: Color) -> Rgba
     ensures { result ≡ rgba_of c }
 {
@@ -77,12 +71,14 @@ pub fn rgba_of(c: Color) -> Rgba
 }
 
 // A channel v, interpolated and divided: `bary` and `inv_w` are b and i, the denominator is d.
+#[tactic(auto, unfolding(crate::specs::Ink::divided_of))]
 fn divided(b: Corners, i: Corners, d: f32, v: Corners) -> f32
     ensures { result ≡ divided_of b i d v }
 {
     (b.c0 * v.c0 * i.c0 + b.c1 * v.c1 * i.c1 + b.c2 * v.c2 * i.c2) / d
 }
 
+#[tactic(auto, unfolding(crate::specs::Ink::blend_of))]
 fn blend(c: Colors, b: Corners, i: Corners, d: f32) -> Color
     ensures { result ≡ blend_of c b i d }
 {
@@ -94,14 +90,15 @@ fn blend(c: Colors, b: Corners, i: Corners, d: f32) -> Color
     }
 }
 
-fn blended(texels: &[u32], c: Colors, b: Corners, i: Corners) -> Shade
+#[tactic(auto, unfolding(crate::specs::Ink::shade_of))]
+fn blended(texels: &[u32], c: Colors, b: Corners, i: Corners) -> Option<Rgba>
     ensures { result ≡ shade_of texels.now (Ink.Blend c) b i }
 {
     let denominator = face::mix(b, i);
     if ieee::range::tiny(denominator) {
-        return Shade::Blank;
+        return None;
     }
-    Shade::Of(rgba_of(blend(c, b, i, denominator)))
+    Some(rgba_of(blend(c, b, i, denominator)))
 }
 
 // A texel's number, row by row.
@@ -114,6 +111,7 @@ fn place(s: Sampler, b: Corners, n: usize) -> usize
     ieee::cast::texel(v, s.height) * (s.width as usize) + ieee::cast::texel(u, s.width)
 }
 
+#[tactic(auto, unfolding(crate::specs::Ink::texel_of))]
 fn texel(texels: &[u32], s: Sampler, b: Corners) -> Rgba
     requires { Texture s.width s.height (length texels.now) }
     ensures { result ≡ texel_of texels.now s b }
@@ -121,6 +119,7 @@ fn texel(texels: &[u32], s: Sampler, b: Corners) -> Rgba
     texel::texel_at(texels, place(s, b, texels.len()))
 }
 
+#[tactic(auto, unfolding(crate::specs::Ink::plain_of))]
 fn plain(t: Rgba) -> Color
     ensures { result ≡ plain_of t }
 {
@@ -132,6 +131,7 @@ fn plain(t: Rgba) -> Color
     }
 }
 
+#[tactic(auto, unfolding(crate::specs::Ink::tinted_of))]
 fn tinted(t: Color, c: Color) -> Color
     ensures { result ≡ tinted_of t c }
 {
@@ -143,6 +143,7 @@ fn tinted(t: Color, c: Color) -> Color
     }
 }
 
+#[tactic(auto, unfolding(crate::specs::Ink::mixed_of))]
 fn mixed(c: Colors, b: Corners) -> Color
     ensures { result ≡ mixed_of c b }
 {
@@ -155,6 +156,7 @@ fn mixed(c: Colors, b: Corners) -> Color
 }
 
 // A texel in its tone. A nibble times 17 is the same after the way through floats.
+#[tactic(auto, unfolding(crate::specs::Ink::toned_of))]
 fn toned(tone: Tone, t: Rgba, b: Corners) -> Rgba
     requires { rgba_of (plain_of t) ≡ t }
     ensures { result ≡ toned_of tone t b }
@@ -168,66 +170,60 @@ fn toned(tone: Tone, t: Rgba, b: Corners) -> Rgba
 
 // What an ink gives at the pixel whose `bary` is b, in a triangle whose `inv_w` is i. One place
 // looks a texel up, so that the compiler puts it into the loop.
-pub fn shade_at(texels: &[u32], ink: Ink, b: Corners, i: Corners) -> Shade
+pub fn shade_at(texels: &[u32], ink: Ink, b: Corners, i: Corners) -> Option<Rgba>
     requires { Stored ink (length texels.now) }
     ensures { result ≡ shade_of texels.now ink b i }
 {
     match ink {
-        Ink::Flat(c) => Shade::Of(c),
+        Ink::Flat(c) => Some(c),
         Ink::Blend(c) => blended(texels, c, b, i),
-        Ink::Textured(s, tone) => Shade::Of(toned(tone, texel(texels, s, b), b)),
+        Ink::Textured(s, tone) => Some(toned(tone, texel(texels, s, b), b)),
     }
 }
 
-// `tri[0].color[channel]` and the other corners'.
+// `tri[0].color[k]` and the other corners'.
+fn channel_of(tri: &[ClipVertex; 3], k: usize) -> Corners
+    requires { k < 4 }
+    ensures { result ≡ channel_of tri.now k }
+{
+    Corners {
+        c0: tri[0].color[k],
+        c1: tri[1].color[k],
+        c2: tri[2].color[k],
+    }
+}
+
+fn uv_of(tri: &[ClipVertex; 3], k: usize) -> Corners
+    requires { k < 2 }
+    ensures { result ≡ uv_of tri.now k }
+{
+    Corners {
+        c0: tri[0].uv[k],
+        c1: tri[1].uv[k],
+        c2: tri[2].uv[k],
+    }
+}
+
+#[tactic(auto, unfolding(crate::specs::Ink::colors_of))]
 pub fn colors_of(tri: [ClipVertex; 3]) -> Colors
     ensures { result ≡ colors_of tri }
 {
-    let v0 = tri[0];
-    let v1 = tri[1];
-    let v2 = tri[2];
     Colors {
-        r: Corners {
-            c0: v0.color[0],
-            c1: v1.color[0],
-            c2: v2.color[0],
-        },
-        g: Corners {
-            c0: v0.color[1],
-            c1: v1.color[1],
-            c2: v2.color[1],
-        },
-        b: Corners {
-            c0: v0.color[2],
-            c1: v1.color[2],
-            c2: v2.color[2],
-        },
-        a: Corners {
-            c0: v0.color[3],
-            c1: v1.color[3],
-            c2: v2.color[3],
-        },
+        r: channel_of(&tri, 0),
+        g: channel_of(&tri, 1),
+        b: channel_of(&tri, 2),
+        a: channel_of(&tri, 3),
     }
 }
 
+#[tactic(auto, unfolding(crate::specs::Ink::sampler_of))]
 pub fn sampler_of(tri: [ClipVertex; 3], width: u32, height: u32) -> Sampler
     ensures { result ≡ sampler_of tri width height }
 {
-    let v0 = tri[0];
-    let v1 = tri[1];
-    let v2 = tri[2];
     Sampler {
         width,
         height,
-        u: Corners {
-            c0: v0.uv[0],
-            c1: v1.uv[0],
-            c2: v2.uv[0],
-        },
-        v: Corners {
-            c0: v0.uv[1],
-            c1: v1.uv[1],
-            c2: v2.uv[1],
-        },
+        u: uv_of(&tri, 0),
+        v: uv_of(&tri, 1),
     }
 }

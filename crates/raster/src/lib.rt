@@ -15,19 +15,13 @@ use clip::vertex::ClipVertex;
 pub mod ink;
 mod rows;
 
-// The original's `Option<[f32; 4]>`.
-#[derive(Clone, Copy)]
-pub enum Flat {
-    Some(Color),
-    None,
-}
-
-fn transformed_ink(tri: [ClipVertex; 3], flat: Flat) -> Ink
+#[tactic(auto, unfolding(crate::specs::Triangles::transformed_ink))]
+fn transformed_ink(tri: [ClipVertex; 3], flat: Option<Color>) -> Ink
     ensures { result ≡ transformed_ink tri flat }
 {
     match flat {
-        Flat::Some(color) => Ink::Flat(ink::rgba_of(color)),
-        Flat::None => Ink::Blend(ink::colors_of(tri)),
+        Some(color) => Ink::Flat(ink::rgba_of(color)),
+        None => Ink::Blend(ink::colors_of(tri)),
     }
 }
 
@@ -35,7 +29,7 @@ pub fn rasterize_transformed_triangle(
     plane: &mut [u8],
     depth_f32: &mut [f32],
     tri: [ClipVertex; 3],
-    flat: Flat,
+    flat: Option<Color>,
 )
     requires plane_len { length plane.old ≡ plane_bytes }
     requires depth_f32_len { length depth_f32.old ≡ pixels }
@@ -47,18 +41,20 @@ pub fn rasterize_transformed_triangle(
     rows::draw(plane, depth_f32, &[], ink, setup);
 }
 
+// Stays: `tone_of` (specs/Triangles) and what is proved of it (proofs/Source) speak of every number; this
+// is where one becomes a `Tone`.
+#[tactic(auto, unfolding(crate::specs::Triangles::tone_of))]
 fn tone_of(tri: [ClipVertex; 3], mode: u32, flat_color: Color) -> Tone
     ensures { result ≡ tone_of tri mode flat_color }
 {
-    if mode == 0 {
-        return Tone::Plain;
+    match mode {
+        0 => Tone::Plain,
+        1 => Tone::Tinted(flat_color),
+        _ => Tone::Mixed(ink::colors_of(tri)),
     }
-    if mode == 1 {
-        return Tone::Tinted(flat_color);
-    }
-    Tone::Mixed(ink::colors_of(tri))
 }
 
+#[tactic(auto, unfolding(crate::specs::Triangles::textured_ink))]
 fn textured_ink(tri: [ClipVertex; 3], width: u32, height: u32, mode: u32, flat_color: Color) -> Ink
     ensures { result ≡ textured_ink tri width height mode flat_color }
 {

@@ -10,18 +10,17 @@ ghost use Rattle.face.specs.Row.{edges_of};
 ghost use Rattle.raster.specs.Steps.{FaceDrawn, Ready, Inside};
 ghost use Rattle.raster.specs.Raster.{inked, depths_after, plane_after};
 
-use crate::ink::{Ink, Shade};
-use face::{Corners, Edges, Face, Setup};
-use screen::plane::VPU_WIDTH;
+use crate::ink::Ink;
+use face::{Corners, Edges, Face};
+use screen::plane::{Rgba, VPU_WIDTH};
 
-fn put(plane: &mut [u8], x: usize, y: usize, shade: Shade)
+fn put(plane: &mut [u8], x: usize, y: usize, shade: Option<Rgba>)
     requires plane_len { length plane.old ≡ plane_bytes }
     requires x_lt_width { (x < width) × (y < height) }
     ensures { plane.new ≡ map_range (inked shade) ((y * width + x) * 4) ((y * width + x) * 4 + 4) plane.old }
 {
-    match shade {
-        Shade::Blank => {}
-        Shade::Of(rgba) => screen::plane::write_pixel(plane, x, y, rgba),
+    if let Some(rgba) = shade {
+        screen::plane::write_pixel(plane, x, y, rgba);
     }
 }
 
@@ -107,7 +106,7 @@ fn draw_rows(plane: &mut [u8], depth: &mut [f32], texels: &[u32], ink: Ink, f: F
     }
 }
 
-pub fn draw(plane: &mut [u8], depth: &mut [f32], texels: &[u32], ink: Ink, setup: Setup)
+pub fn draw(plane: &mut [u8], depth: &mut [f32], texels: &[u32], ink: Ink, setup: Option<Face>)
     requires plane_len { length plane.old ≡ plane_bytes }
     requires depth_len { length depth.old ≡ pixels }
     requires stored { Stored ink (length texels.now) }
@@ -115,8 +114,7 @@ pub fn draw(plane: &mut [u8], depth: &mut [f32], texels: &[u32], ink: Ink, setup
     ensures depth_after { depth.new ≡ depths_after setup depth.old }
     ensures plane_after { plane.new ≡ plane_after texels.now ink setup depth.old plane.old }
 {
-    match setup {
-        Setup::Drawn(f) => draw_rows(plane, depth, texels, ink, f),
-        Setup::Nothing => {}
+    if let Some(f) = setup {
+        draw_rows(plane, depth, texels, ink, f);
     }
 }

@@ -1,125 +1,71 @@
 // Streams as the file has them, read into a tape of words.
-ghost use Rattle.std.specs.Prelude.{◌≡◌, ◌≤◌, length, IfOk, OnErr};
-ghost use Rattle.console.specs.Counts.{IsPrefixLen};
+ghost use Rattle.std.specs.Prelude.{◌≤◌, length, IfOk, MatchOption, vec_len};
+ghost use Rattle.std.specs.Iterator.{at_most};
 
-use std::fs::File;
+use std::alloc::{AllocError, Global};
 use std::io;
-use std::io::{Read, Stdin, Stdout};
+use std::io::{Read, Stdout, Write};
 
-// Where the streams are read: standard input, or a file.
+// How many words the longest stream has that is taken.
+pub const LONGEST: usize = 110000;
+
+// The words of each call that a tape has: a count, and as many words, or those that are left.
 #[derive(Drop)]
-pub enum Source {
-    Input(Stdin),
-    Named(File),
-}
+pub struct Calls<'a>(pub &'a [u32]);
 
-impl Read for Source {
-    fn read(&mut self, buf: &mut [u8]) -> io::Result<usize> {
-        match self {
-            Source::Input(input) => input.read(buf),
-            Source::Named(file) => file.read(buf),
-        }
+impl<'a> Iterator for Calls<'a> {
+    type Item = &'a [u32];
+
+    ghost remaining = { λ s. at_most (length s.0.now) };
+
+    fn next(&mut self) -> Option<&'a [u32]> {
+        let (count, rest) = self.0.split_first()?;
+        let n = rest.len().min(*count as usize);
+        let (words, after) = rest.split_at(n);
+        self.0 = after;
+        Some(words)
     }
 }
 
-// A word of the file, and whether the file had one.
-#[derive(Clone, Copy)]
-struct Word {
-    there: bool,
-    word: u32,
+// Reads the next stream's words, counts and all, and prints its name. None if the file has ended,
+// the stream has no words, or it is longer than what is taken.
+pub fn next(
+    alloc: Global,
+    source: &mut impl Read,
+    mut out: Stdout,
+) -> io::Result<Option<Vec<u32>>> {
+    let mut name = [0; 24];
+    if console::read_full(source, &mut name)? < name.len() {
+        return Ok(None);
+    }
+    let end = name.iter().position(|b| *b == 0).unwrap_or(name.len());
+    out.write_all(&name[..end])?;
+    out.write_all(b"\n")?;
+    let mut count = [0; 4];
+    console::read_full(source, &mut count)?;
+    let n = u32::from_le_bytes(count) as usize;
+    if n > LONGEST {
+        println!(out; "too long")?;
+        return Ok(None);
+    }
+    let mut bytes = vec![in alloc; 0; n * 4]?;
+    if console::read_full(source, &mut bytes)? < bytes.len() {
+        println!(out; "cut short")?;
+        return Ok(None);
+    }
+    if n == 0 {
+        return Ok(None);
+    }
+    let mut words = vec![in alloc; 0; n]?;
+    words::words_of(&bytes, &mut words);
+    Ok(Some(words))
 }
 
-fn read_word(source: &mut Source) -> io::Result<Word> {
-    let mut bytes = [0u8; 4];
-    let got = console::read_full(source, &mut bytes)?;
-    Ok(Word {
-        there: got == 4,
-        word: words::word(bytes[0], bytes[1], bytes[2], bytes[3]),
-    })
-}
-
-// Reads n words; says whether the file had them.
-fn fill(source: &mut Source, out: &mut [u32], n: usize) -> io::Result<bool>
-    requires { n ≤ length out.old }
-{
-    let mut at: usize = 0;
-    while at < n {
-        let next = read_word(source)?;
-        if !next.there {
-            return Ok(false);
-        }
-        out[at] = next.word;
-        at += 1;
+// The words without the counts among them.
+pub fn joined(alloc: Global, calls: Calls) -> Result<Vec<u32>, AllocError> {
+    let mut all = Vec::new(alloc);
+    for words in calls {
+        all.extend_from_slice(words)?;
     }
-    Ok(true)
-}
-
-// The bytes of a name up to its first zero.
-fn name_length(name: &[u8; 24]) -> usize
-    ensures { result ≤ 24 }
-{
-    let mut i: usize = 0;
-    while i < 24 {
-        if name[i] == 0 {
-            return i;
-        }
-        i += 1;
-    }
-    24
-}
-
-fn print_name(source: &mut Source, out: Stdout) -> io::Result<bool> {
-    let mut name = [0u8; 24];
-    let got = console::read_full(source, &mut name)?;
-    if got != 24 {
-        return Ok(false);
-    }
-    let n = name_length(&name);
-    console::write_all(out, &name[..n])?;
-    console::write_all(out, b"\n")?;
-    Ok(true)
-}
-
-// Reads the next stream's words, counts and all, and prints its name. Answers how many they are, or
-// 0 if the file has ended or the stream is too long for the tape.
-pub fn next(source: &mut Source, out: Stdout, tape: &mut [u32]) -> io::Result<usize>
-    ensures ok { IfOk result (λ n. IsPrefixLen n tape.new) }
-    ensures err { OnErr result (length tape.new ≡ length tape.old) }
-{
-    if !print_name(source, out)? {
-        return Ok(0);
-    }
-    let head = read_word(source)?;
-    let n = words::size(head.word);
-    if n > tape.len() {
-        console::write_all(out, b"too long\n")?;
-        return Ok(0);
-    }
-    if !fill(source, tape, n)? {
-        console::write_all(out, b"cut short\n")?;
-        return Ok(0);
-    }
-    Ok(n)
-}
-
-// Moves the first n words, without the counts among them, to the front. Answers how many they are.
-pub fn joined(tape: &mut [u32], n: usize) -> usize
-    requires { n ≤ length tape.old }
-    ensures { IsPrefixLen result tape.new }
-{
-    let mut at: usize = 0;
-    let mut to: usize = 0;
-    let mut left: u32 = 0;
-    while at < n {
-        let w = tape[at];
-        at += 1;
-        if left == 0 {
-            left = w;
-        } else {
-            tape[to] = w;
-            to += 1;
-            left -= 1;
-        }
-    }
-    to
+    Ok(all)
 }

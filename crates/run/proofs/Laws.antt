@@ -5,21 +5,20 @@ use mathlib.Core.Bool.{Bool, true, false, cond}
 use mathlib.Core.List.{List, [], ◌∷◌, ◌++◌}
 use native.Mathlib.Omega.{arith}
 use native.Mathlib.Nat.{add-zero, sub-zero, le_refl}
-use native.Mathlib.Numerals.{add-one}
 use borrow.Author.Tests.{eq-eqb, ne_eqb, lt-ltb, le-ltb}
 use lib.IntN.{ℤ}
 use lib.Ieee.{Float}
-use lib.ListN.{length, take, drop, get_or, length-drop}
-use lib.Seq.{drop-cons, drop-length, get_or-drop, take-take, length-take-le, paste, paste-zero, paste-suc}
+use lib.ListN.{length, take, drop, get_or}
+use lib.Seq.{drop-cons, take-take, length-take-le, paste, paste-zero, paste-suc}
 use Rattle.screen.specs.Plane.{plane_bytes}
 use Rattle.screen.specs.Draw.{pixels}
 use Rattle.store.specs.declared.Kind.TheVariants.{Texture, Model}
-use Rattle.verdict.specs.declared.Verdict.{Verdict}
+use Rattle.std.specs.Prelude.{Option, None}
+use Rattle.verdict.specs.Verdict.{Verdict}
 use Rattle.verdict.specs.declared.Reason.TheVariants.{ZeroOpcode, CountTooLarge}
 use Rattle.state.specs.State.{most_payload, begun_ok}
 use Rattle.state.specs.declared.State.{State}
 use Rattle.command.specs.declared.Command.{Command}
-use Rattle.command.specs.declared.Command.TheVariants.{Unknown}
 use Rattle.execute.specs.Paints.{paints_on}
 use Rattle.command.specs.Command.{command_of}
 use Rattle.execute.specs.Commands.{unknown}
@@ -128,21 +127,22 @@ module _ {X : Type 0} (K : Keep X) where
   run-append m [] b = refl
   run-append m (w ∷ a) b = run-append (word_on K m w) a b
 
-  pub run_turn : (ws : List ℕ) (k : ℕ) (m r : Seen X) → k < length ws → run K m (drop k ws) ≡ r → run K (word_on K m (get_or ws k 0)) (drop (k + 1) ws) ≡ r
+  pub run_turn : (m r : Seen X) {left rest : List ℕ} {w : ℕ} → left ≡ w ∷ rest → run K m left ≡ r → run K (word_on K m w) rest ≡ r
   unfolding run
-  run_turn ws k m r h p = rw add-one (rw (drop-cons ws k 0) at p)
+  run_turn m r h p = rw h at p
 
-  pub run_end : (ws : List ℕ) (k : ℕ) (m r : Seen X) → k ≡ length ws → run K m (drop k ws) ≡ r → m ≡ r
+  pub run_end : (m r : Seen X) (left : List ℕ) → length left ≡ 0 → run K m left ≡ r → m ≡ r
   unfolding run
-  run_end ws k m r h p = rw (h, drop-length) at p
+  run_end m r [] h p = p
+  run_end m r (w ∷ left) h p = absurd (omega arith)
 
 -- ---- a loop over the words: what is left of them, run from here, is the whole run
-pub record Held (ws : List ℕ) (m₀ : Machine) (s : State) (f : Frame) (P : List ℕ) (D : List ℤ) (F : List Float) (C T M : List ℕ) (k : ℕ) : Type 0 where
-  pub within : k ≤ length ws
+pub record Held (ws : List ℕ) (m₀ : Machine) (s : State) (f : Frame) (P : List ℕ) (D : List ℤ) (F : List Float) (C T M left : List ℕ) : Type 0 where
+  pub small : (i : ℕ) → get_or left i 0 < 4294967296
   pub sound : Sound (with_frame s f) (length P) (length D) (length F) (length C) (length T) (length M)
   pub same_textures : length T ≡ length m₀.control.box.textures.words
   pub same_models : length M ≡ length m₀.control.box.models.words
-  pub rest : run as_box (machine (with_frame s f) P D F C T M) (drop k ws) ≡ run as_box m₀ ws
+  pub rest : run as_box (machine (with_frame s f) P D F C T M) left ≡ run as_box m₀ ws
 
 -- what a command that is to be run asks
 pub record Runs (s : State) (P : List ℕ) (D : List ℤ) (F : List Float) (C T M : List ℕ) : Type 0 where
@@ -156,31 +156,35 @@ pub record Runs (s : State) (P : List ℕ) (D : List ℤ) (F : List Float) (C T 
 
 pub held_start : (ws : List ℕ) (s : State) {f : Frame} (P : List ℕ) (D : List ℤ) (F : List Float) (C T M : List ℕ)
     → Sound s (length P) (length D) (length F) (length C) (length T) (length M) → f ≡ frame_of s
-    → Held ws (machine s P D F C T M) s f P D F C T M 0
-held_start ws s P D F C T M h e = rw e (record { within = omega arith; sound = h; same_textures = refl; same_models = refl; rest = refl })
+    → ((i : ℕ) → get_or ws i 0 < 4294967296) → Held ws (machine s P D F C T M) s f P D F C T M ws
+held_start ws s P D F C T M h e l = rw e (record { small = l; sound = h; same_textures = refl; same_models = refl; rest = refl })
 
-module _ {ws : List ℕ} {m₀ : Machine} {s : State} {f : Frame} {P : List ℕ} {D : List ℤ} {F : List Float} {C T M : List ℕ} {k : ℕ} (held : Held ws m₀ s f P D F C T M k) where
+module _ {ws : List ℕ} {m₀ : Machine} {s : State} {f : Frame} {P : List ℕ} {D : List ℤ} {F : List Float} {C T M left : List ℕ} (held : Held ws m₀ s f P D F C T M left) where
   -- what is asked to take a word
   pub held_takes : f.gathered + f.wanted ≤ length C
   held_takes = rw held.sound.of-command (begun-fits _ _ _ held.sound.begun)
 
-  pub held_end : {r : State} → length ws ≤ k → r ≡ with_frame s f → machine r P D F C T M ≡ run as_box m₀ ws
-  held_end l e = rw e (run_end as_box ws k _ _ (omega (arith, held.within)) held.rest)
+  pub held_end : {r : State} → length left ≡ 0 → r ≡ with_frame s f → machine r P D F C T M ≡ run as_box m₀ ws
+  held_end l e = rw e (run_end as_box _ _ left l held.rest)
 
   -- One turn, from what the callees ensure of their results
-  module _ {w : ℕ} {f' : Frame} {C' : List ℕ} (is-more : k < length ws) (word-is : w ≡ get_or ws k 0) (frame_is : f' ≡ word_frame f w) (area-is : C' ≡ word_area f w C) where
+  module _ {w : ℕ} {f' : Frame} {C' : List ℕ} {rest : List ℕ} (is-more : left ≡ w ∷ rest) (frame_is : f' ≡ word_frame f w) (area-is : C' ≡ word_area f w C) where
     turned : (b : Bool) → ready_of f' ≡ b
-        → word_on as_box (machine (with_frame s f) P D F C T M) (get_or ws k 0) ≡ cond b (executed as_box (machine (with_frame s f') P D F C' T M)) (machine (with_frame s f') P D F C' T M)
-    turned b r = rw (← word-is, ← r, frame_is, area-is) (word_turn s P D F T M f C w held.sound.begun)
+        → word_on as_box (machine (with_frame s f) P D F C T M) w ≡ cond b (executed as_box (machine (with_frame s f') P D F C' T M)) (machine (with_frame s f') P D F C' T M)
+    turned b r = rw (← r, frame_is, area-is) (word_turn s P D F T M f C w held.sound.begun)
 
     same_area : length C' ≡ length C
     same_area = ap length area-is ∙ area-length f w C
 
-    pub held_word : w < 4294967296 → ready_of f' ≡ false → Held ws m₀ s f' P D F C' T M (k + 1)
-    held_word l r =
+    small_rest : (i : ℕ) → get_or rest i 0 < 4294967296
+    small_rest i = rw is-more at (held.small (suc i))
+
+    pub held_word : ready_of f' ≡ false → Held ws m₀ s f' P D F C' T M rest
+    held_word r =
         let h = held.sound in
+        let l : w < 4294967296 = rw is-more at (held.small 0) in
         record {
-          within = omega arith;
+          small = small_rest;
           sound = record {
             of-plane = h.of-plane;
             of-depth = h.of-depth;
@@ -192,7 +196,7 @@ module _ {ws : List ℕ} {m₀ : Machine} {s : State} {f : Frame} {P : List ℕ}
           };
           same_textures = held.same_textures;
           same_models = held.same_models;
-          rest = rw (turned false r) at (run_turn as_box ws k _ _ is-more held.rest);
+          rest = rw (turned false r) at (run_turn as_box _ _ is-more held.rest);
         }
 
     -- what a command that is to be run may count on
@@ -213,7 +217,7 @@ module _ {ws : List ℕ} {m₀ : Machine} {s : State} {f : Frame} {P : List ℕ}
         })
 
     -- what the command is, in a state with this frame
-    pub held-is : {t : State} {r c : Command} → t ≡ with_frame s f' → r ≡ command_of f'.opcode → r ≡ c → command_of t.opcode ≡ c
+    pub held-is : {t : State} {r c : Option Command} → t ≡ with_frame s f' → r ≡ command_of f'.opcode → r ≡ c → command_of t.opcode ≡ c
     held-is e a b = ap (λ (x : State). command_of x.opcode) e ∙ sym a ∙ b
 
     -- for a command that paints nothing
@@ -222,7 +226,7 @@ module _ {ws : List ℕ} {m₀ : Machine} {s : State} {f : Frame} {P : List ℕ}
         → control_of s'' C' T'' M'' ≡ (execute as_box (control_of t C' T M)).control
         → length T'' ≡ length T → length M'' ≡ length M
         → length t.textures ≡ 64 → length t.models ≡ 64 → f'' ≡ frame_of s''
-        → Held ws m₀ s'' f'' P D F C' T'' M'' (k + 1)
+        → Held ws m₀ s'' f'' P D F C' T'' M'' rest
     held-command {t = t'} {s'' = s''} {T'' = T''} {M'' = M''} r e z c t m a b y =
         let h = held.sound in
         let x : machine s'' P D F C' T'' M'' ≡ executed as_box (machine t' P D F C' T M) = blank-executed t' C' T M P D F s'' T'' M'' z c in
@@ -233,7 +237,7 @@ module _ {ws : List ℕ} {m₀ : Machine} {s : State} {f : Frame} {P : List ℕ}
         let idle = executed_idle _ _ _ _ _ _ _ _ x in
         rw y
         (record {
-          within = omega arith;
+          small = small_rest;
           sound = record {
             of-plane = h.of-plane;
             of-depth = h.of-depth;
@@ -245,7 +249,7 @@ module _ {ws : List ℕ} {m₀ : Machine} {s : State} {f : Frame} {P : List ℕ}
           };
           same_textures = t ∙ held.same_textures;
           same_models = m ∙ held.same_models;
-          rest = rw x (rw e (rw (turned true r) at (run_turn as_box ws k _ _ is-more held.rest)));
+          rest = rw x (rw e (rw (turned true r) at (run_turn as_box _ _ is-more held.rest)));
         })
 
     -- for a command that leaves settings and stores alone
@@ -253,11 +257,11 @@ module _ {ws : List ℕ} {m₀ : Machine} {s : State} {f : Frame} {P : List ℕ}
         → ready_of f' ≡ true
         → machine (with_frame s f'') P'' D'' F'' C' T M ≡ executed as_box (machine (with_frame s f') P D F C' T M)
         → length P'' ≡ length P → length D'' ≡ length D → length F'' ≡ length F
-        → Held ws m₀ s f'' P'' D'' F'' C' T M (k + 1)
+        → Held ws m₀ s f'' P'' D'' F'' C' T M rest
     held-painted r x p d g =
         let h = held.sound in
         record {
-          within = omega arith;
+          small = small_rest;
           sound = record {
             of-plane = p ∙ h.of-plane;
             of-depth = d ∙ h.of-depth;
@@ -269,56 +273,42 @@ module _ {ws : List ℕ} {m₀ : Machine} {s : State} {f : Frame} {P : List ℕ}
           };
           same_textures = held.same_textures;
           same_models = held.same_models;
-          rest = rw x (rw (turned true r) at (run_turn as_box ws k _ _ is-more held.rest));
+          rest = rw x (rw (turned true r) at (run_turn as_box _ _ is-more held.rest));
         }
 
     -- and of one that is unknown, which paints nothing either
-    pub held-unknown : {f'' : Frame} {v : Verdict} → ready_of f' ≡ true → command_of f'.opcode ≡ Unknown → v ≡ unknown → f'' ≡ ended_frame f' v
-        → Held ws m₀ s f'' P D F C' T M (k + 1)
+    pub held-unknown : {f'' : Frame} {v : Verdict} → ready_of f' ≡ true → command_of f'.opcode ≡ None → v ≡ unknown → f'' ≡ ended_frame f' v
+        → Held ws m₀ s f'' P D F C' T M rest
     held-unknown {f'' = f''} r h u e = held-painted r (unknown-executed (with_frame s f') C' T M P D F (with_frame s f'') h (ap (with_frame s) (rw u at e))) refl refl refl
 
 -- ---- a run of payload words, none of them the last, is copied at once
--- the places of word n of a run: in the command area, in what is left of the words
+-- the place of word n of a run in the command area
 in_area : (g w n c : ℕ) → suc n ≤ w - 1 → g + w ≤ c → g + n < c
 in_area g w n c a h = omega arith
 
-in_rest : (k n l d : ℕ) → d ≡ l - k → k + suc n ≤ l → n < d
-in_rest k n l d e h = omega arith
-
-module _ {ws : List ℕ} {m₀ : Machine} {s : State} {f : Frame} {P : List ℕ} {D : List ℤ} {F : List Float} {C T M : List ℕ} {k : ℕ} (held : Held ws m₀ s f P D F C T M k)
-    (small : (i : ℕ) → i < length ws → get_or ws i 0 < 4294967296) where
+module _ {ws : List ℕ} {m₀ : Machine} {s : State} {f : Frame} {P : List ℕ} {D : List ℤ} {F : List Float} {C T M left : List ℕ} (held : Held ws m₀ s f P D F C T M left) where
   -- word by word
-  gathers : (n : ℕ) → n ≤ f.wanted - 1 → k + n ≤ length ws → Held ws m₀ s (gathered_frame f n) P D F (paste C f.gathered (drop k ws) n) T M (k + n)
-  gathers zero a b = rw (← paste-zero C f.gathered (drop k ws), add-zero k, add-zero f.gathered, sub-zero f.wanted) held
+  gathers : (n : ℕ) → n ≤ f.wanted - 1 → n ≤ length left → Held ws m₀ s (gathered_frame f n) P D F (paste C f.gathered left n) T M (drop n left)
+  gathers zero a b = rw (← paste-zero C f.gathered left, add-zero f.gathered, sub-zero f.wanted) held
   gathers (suc n) a b =
-      let is-more : k + n < length ws = omega (arith, b) in
-      let j : k + suc n ≡ k + n + 1 = omega arith in
       let g : f.gathered + suc n ≡ f.gathered + n + 1 = omega arith in
       let w : f.wanted - suc n ≡ f.wanted - n - 1 = omega arith in
       let wants : f.wanted - n ≡ 0 → ⊥ = λ z. omega (arith, a) in
       let wants-still : f.wanted - suc n ≡ 0 → ⊥ = λ z. omega (arith, a) in
-      rw j
-      (held_word (gathers n (omega (arith, a)) (omega (arith, b))) {w = get_or ws (k + n) 0} is-more refl (rw (g, w) (sym (word-payload (gathered_frame f n) (get_or ws (k + n) 0) wants)))
-      (sym (area-payload (gathered_frame f n) (get_or ws (k + n) 0) (paste C f.gathered (drop k ws) n) wants
-      ∙ (rw (get_or-drop k ws n 0) at (paste-suc C f.gathered (drop k ws) n 0 (in_area f.gathered f.wanted n (length C) a (held_takes held)) (in_rest k n (length ws) (length (drop k ws)) (length-drop k ws) b)))))
-      (small (k + n) is-more) (ready_wanting (gathered_frame f (suc n)) wants-still))
+      held_word (gathers n (omega (arith, a)) (omega (arith, b))) {w = get_or left n 0} (drop-cons left n 0 (omega (arith, b))) (rw (g, w) (sym (word-payload (gathered_frame f n) (get_or left n 0) wants)))
+      (sym (area-payload (gathered_frame f n) (get_or left n 0) (paste C f.gathered left n) wants
+      ∙ paste-suc C f.gathered left n 0 (in_area f.gathered f.wanted n (length C) a (held_takes held)) (omega (arith, b))))
+      (ready_wanting (gathered_frame f (suc n)) wants-still)
 
-  module _ {n : ℕ} (is : n ≡ between_of f (length ws - k)) where
-    all_there : k + n ≤ length ws
-    all_there = omega (arith, (between-fits f (length ws - k) n is).there, held.within)
-
-    run_length : length (take (k + n - k) (drop k ws)) ≡ n
-    run_length =
-        let same : k + n - k ≡ n = omega arith in
-        rw same (length-take-le n (drop k ws) (rw (length-drop k ws) (omega (arith, (between-fits f (length ws - k) n is).there))))
+  module _ {n : ℕ} (is : n ≡ between_of f (length left)) where
+    run_length : length (take n left) ≡ n
+    run_length = length-take-le n left (between-fits f (length left) n is).there
 
     -- what is asked to copy it
-    pub held_fits : length (take (k + n - k) (drop k ws)) ≤ f.wanted
-    held_fits = omega (arith, run_length, (between-fits f (length ws - k) n is).before_last)
+    pub held_fits : {run : List ℕ} → run ≡ take n left → length run ≤ f.wanted
+    held_fits e = rw e (omega (arith, run_length, (between-fits f (length left) n is).before_last))
 
     -- from what the callee ensures of its results
-    pub held-gathered : {f' : Frame} {C' run : List ℕ} → run ≡ take (k + n - k) (drop k ws)
-        → f' ≡ gathered_frame f (length run) → C' ≡ paste C f.gathered run (length run) → Held ws m₀ s f' P D F C' T M (k + n)
-    held-gathered r x y =
-        let same : k + n - k ≡ n = omega arith in
-        rw (x, y, r, run_length, same, take-take n n (drop k ws) (le_refl n)) (gathers n (between-fits f (length ws - k) n is).before_last all_there)
+    pub held-gathered : {f' : Frame} {C' run after : List ℕ} → run ≡ take n left → after ≡ drop n left
+        → f' ≡ gathered_frame f (length run) → C' ≡ paste C f.gathered run (length run) → Held ws m₀ s f' P D F C' T M after
+    held-gathered r d x y = rw (d, x, y, r, run_length, take-take n n left (le_refl n)) (gathers n (between-fits f (length left) n is).before_last (between-fits f (length left) n is).there)

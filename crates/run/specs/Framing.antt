@@ -1,9 +1,7 @@
 -- Words: headers and payloads, over any way of keeping uploads. Section 2 of docs/RULES.md; `pump` of the original. Definitions only.
 use Rattle.std.specs.Prelude.{ℕ, ◌-◌, ◌/◌, ◌%◌, cond, List, [], ◌∷◌, eqb, ltb}
-use Rattle.verdict.specs.Verdict.{noted_of}
+use Rattle.verdict.specs.Verdict.{Verdict, refused, noted_of}
 use Rattle.verdict.specs.declared.Reason.TheVariants.{ZeroOpcode, CountTooLarge}
-use Rattle.verdict.specs.declared.Verdict.{Verdict}
-use Rattle.verdict.specs.declared.Verdict.TheVariants.{Refused}
 use Rattle.state.specs.State.{most_payload}
 use Rattle.execute.specs.Control.{Keep, Control, Step, Seen, stepped, execute}
 
@@ -21,8 +19,8 @@ module _ {X : Type 0} (K : Keep X) where
   -- rules 2.2, 2.3 and 2.4
   unfoldable pub header : Control X → ℕ → ℕ → Step X
   header c op n =
-      cond (eqb op 0) (dropped c op (Refused ZeroOpcode 0))
-      (cond (ltb most_payload n) (dropped c op (Refused CountTooLarge 0))
+      cond (eqb op 0) (dropped c op (refused ZeroOpcode 0))
+      (cond (ltb most_payload n) (dropped c op (refused CountTooLarge 0))
       (cond (eqb n 0) (execute K (begun c op 0)) (still (begun c op n))))
 
   -- rule 2.5: a payload word, and whether it is the last

@@ -2,7 +2,7 @@
 // four numbers, and so do commands that paint. Those that set or load change the rest too.
 #![tactic(auto)]
 
-ghost use Rattle.std.specs.Prelude.{◌≡◌, true, ◌≤◌, length};
+ghost use Rattle.std.specs.Prelude.{◌≡◌, true, ◌≤◌, length, Some};
 ghost use Rattle.screen.specs.Plane.{plane_bytes};
 ghost use Rattle.screen.specs.Draw.{pixels};
 ghost use Rattle.store.specs.Slots.{slots_ok};
@@ -17,7 +17,7 @@ ghost use Rattle.run.specs.Sound.{Sound};
 
 use command::{Command, Draw, command_of};
 use execute::{after_load, after_set};
-use framing::{Frame, ended, frame_of, with_frame};
+use framing::Frame;
 use state::State;
 use verdict::unknown;
 
@@ -34,7 +34,7 @@ fn painted(
     textures: &[u32],
     models: &[u32],
 ) -> Frame
-    requires opcode_value { command_of f.opcode ≡ Paints draw }
+    requires opcode_value { command_of f.opcode ≡ Some (Paints draw) }
     requires plane_len { length plane.old ≡ plane_bytes }
     requires depth_len { length depth.old ≡ pixels }
     requires depth_f32_len { length depth_f32.old ≡ pixels }
@@ -60,7 +60,7 @@ fn painted(
         depth,
         depth_f32,
     );
-    ended(f, verdict)
+    f.ended(verdict)
 }
 
 pub fn run_words(
@@ -78,32 +78,31 @@ pub fn run_words(
         ≡ run as_box (machine state plane.old depth.old depth_f32.old command.old textures.old models.old) words.now }
 {
     let mut s = state;
-    let mut f = frame_of(state);
-    let mut k = 0;
-    while k < words.len() {
-        let w = words[k];
-        k += 1;
-        f = framing::take_word(f, w, command);
-        if framing::ready(f) {
+    let mut f = Frame::from(state);
+    let mut left = words;
+    while let Some((&w, rest)) = left.split_first() {
+        left = rest;
+        f = f.take_word(w, command);
+        if f.ready() {
             match command_of(f.opcode) {
-                Command::Sets(setting) => {
-                    s = after_set(setting, with_frame(s, f), command);
-                    f = frame_of(s);
+                Some(Command::Sets(setting)) => {
+                    s = after_set(setting, f.into_state(s), command);
+                    f = Frame::from(s);
                 }
-                Command::Loads(kind) => {
-                    s = after_load(kind, with_frame(s, f), command, textures, models);
-                    f = frame_of(s);
+                Some(Command::Loads(kind)) => {
+                    s = after_load(kind, f.into_state(s), command, textures, models);
+                    f = Frame::from(s);
                 }
-                Command::Paints(d) => {
+                Some(Command::Paints(d)) => {
                     f = painted(d, s, f, plane, depth, depth_f32, command, textures, models);
                 }
-                Command::Unknown => f = ended(f, unknown()),
+                None => f = f.ended(Err(unknown())),
             }
         } else {
-            let n = framing::between(f, words.len() - k);
-            f = framing::gather(f, &words[k..k + n], command);
-            k += n;
+            let (run, rest) = left.split_at(f.between(left.len()));
+            left = rest;
+            f = f.gather(run, command);
         }
     }
-    with_frame(s, f)
+    f.into_state(s)
 }

@@ -1,10 +1,9 @@
 -- The plane: byte j belongs to the pixel j / 4, which is at (j / 4 mod 320, j / 4 / 320), and is its channel j mod 4.
 -- Rules 1.1, 1.6 and 1.7; `write_pixel` and `pixel` of the original. Assumes nothing.
-use Rattle.std.specs.Prelude.{ℕ, zero, suc, ◌+◌, ◌-◌, ◌*◌, ◌/◌, ◌%◌, cond, ◌&&◌, List, [], ◌∷◌, eqb, ltb, length, get_or}
+use Rattle.std.specs.Prelude.{ℕ, zero, suc, ◌+◌, ◌-◌, ◌*◌, ◌/◌, ◌%◌, cond, ◌&&◌, List, [], ◌∷◌, eqb, ltb, length, get_or, Result, Ok, Err}
 use Rattle.screen.specs.Dither.{threshold_at, dither_of}
 use Rattle.screen.specs.declared.plane.Rgba.{Rgba}
-use Rattle.screen.specs.declared.plane.Read.{Read}
-use Rattle.screen.specs.declared.plane.Read.TheVariants.{Colour, WrongLength}
+use Rattle.screen.specs.declared.plane.WrongLength.{WrongLength}
 
 -- rule 1.1
 abbrev pub width : ℕ
@@ -43,10 +42,10 @@ pub record Answered : Type 0 where
 abbrev pub nothing : List ℕ
 nothing = 0 ∷ 0 ∷ 0 ∷ 0 ∷ []
 
--- the number and the values of each case of the enum
-abbrev pub answered : Read → Answered
-answered (Colour c) = record { number = 0; bytes = c.r ∷ c.g ∷ c.b ∷ c.a ∷ [] }
-answered WrongLength = record { number = 1; bytes = nothing }
+-- the number and the values of each case
+abbrev pub answered : Result Rgba WrongLength → Answered
+answered (Ok c) = record { number = 0; bytes = c.r ∷ c.g ∷ c.b ∷ c.a ∷ [] }
+answered (Err e) = record { number = 1; bytes = nothing }
 
 -- rule 1.7: the four bytes of the pixel at (x, y), and four zeros off the screen
 abbrev pub four_from : List ℕ → ℕ → List ℕ

@@ -2,22 +2,10 @@
 ghost use Rattle.std.specs.Prelude.{◌≡◌, length};
 ghost use Rattle.screen.specs.Depths.{far_ints, far_floats};
 
-pub fn refill_ints(depth: &mut [i32])
-    ensures { depth.new ≡ far_ints (length depth.old) }
+pub fn refill(depth: &mut [i32], depth_f32: &mut [f32])
+    ensures ints { depth.new ≡ far_ints (length depth.old) }
+    ensures floats { depth_f32.new ≡ far_floats (length depth_f32.old) }
 {
-    let mut i = 0;
-    while i < depth.len() {
-        depth[i] = i32::MAX;
-        i += 1;
-    }
-}
-
-pub fn refill_floats(depth: &mut [f32])
-    ensures { depth.new ≡ far_floats (length depth.old) }
-{
-    let mut i = 0;
-    while i < depth.len() {
-        depth[i] = 1.0;
-        i += 1;
-    }
+    depth.fill(i32::MAX);
+    depth_f32.fill(1.0);
 }

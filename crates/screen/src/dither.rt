@@ -1,5 +1,5 @@
 // Eight-bit colour brought to five bits and back, with a Bayer pattern that is fixed to the screen.
-ghost use Rattle.std.specs.Prelude.{◌≡◌, ◌<◌, ◌≤◌};
+ghost use Rattle.std.specs.Prelude.{◌≡◌, ◌≤◌};
 ghost use Rattle.screen.specs.Dither.{threshold_at, level_of, dither_of};
 
 // Row y % 4, column x % 4.
@@ -13,32 +13,26 @@ pub fn threshold(x: usize, y: usize) -> u8
     BAYER_4X4[(y % 4) * 4 + x % 4]
 }
 
-fn wide(x: u8) -> u32
-    ensures { result ≡ x }
-{
-    x as u32
-}
-
 // The original cuts the level at 31. It never passes 31: 255 * 31 leaves no remainder.
-fn level(channel: u32, threshold: u32) -> u32
-    requires channel_bound { channel < 256 }
-    requires threshold_bound { threshold < 256 }
+#[tactic(auto, unfolding(crate::specs::Dither::level_of))]
+fn level(channel: u8, threshold: u8) -> u32
     ensures value { result ≡ level_of channel threshold }
     ensures upper_bound { result ≤ 31 }
 {
-    let scaled = channel * 31;
+    let scaled = u32::from(channel) * 31;
     let level = scaled / 255;
     let remainder = scaled % 255;
-    if remainder * 32 > (threshold * 2 + 1) * 255 {
+    if remainder * 32 > (u32::from(threshold) * 2 + 1) * 255 {
         return level + 1;
     }
     level
 }
 
 // One channel. The original maps this over three, at (x, y), whose threshold is handed in here.
+#[tactic(auto, unfolding(crate::specs::Dither::dither_of))]
 pub fn rgb555_dither(channel: u8, threshold: u8) -> u8
     ensures { result ≡ dither_of channel threshold }
 {
-    let level = level(wide(channel), wide(threshold));
+    let level = level(channel, threshold);
     ((level * 255 + 15) / 31) as u8
 }

@@ -3,6 +3,7 @@
 // the original.
 #![tactic(auto)]
 
+pub mod bounds;
 pub mod depths;
 pub mod dither;
 pub mod plane;

@@ -7,11 +7,14 @@ pub const VPU_WIDTH: usize = 320;
 
 pub const VPU_HEIGHT: usize = 240;
 
-pub const PLANE_BYTES: usize = VPU_WIDTH * VPU_HEIGHT * 4;
+// How many pixels the screen has, and so how many depths of each form.
+pub const PIXELS: usize = VPU_WIDTH * VPU_HEIGHT;
+
+pub const PLANE_BYTES: usize = PIXELS * 4;
 
 const ROW_BYTES: usize = VPU_WIDTH * 4;
 
-#[derive(Clone, Copy)]
+#[derive(Clone, Copy, Debug, PartialEq, Eq)]
 pub struct Rgba {
     pub r: u8,
     pub g: u8,
@@ -19,37 +22,32 @@ pub struct Rgba {
     pub a: u8,
 }
 
-// What reading a pixel answers: its colour, or that the lent plane has a wrong length.
-#[derive(Clone, Copy)]
-pub enum Read {
-    Colour(Rgba),
-    WrongLength,
+impl Rgba {
+    // What is read off the screen.
+    pub const CLEAR: Rgba = Rgba {
+        r: 0,
+        g: 0,
+        b: 0,
+        a: 0,
+    };
 }
 
-pub fn pixel(plane: &[u8], x: usize, y: usize) -> Read
+// The lent plane has a wrong length.
+#[derive(Clone, Copy, Debug, PartialEq, Eq)]
+pub struct WrongLength;
+
+#[tactic(auto, unfolding(crate::specs::Plane::pixel_of))]
+pub fn pixel(plane: &[u8], x: usize, y: usize) -> Result<Rgba, WrongLength>
     ensures { answered result ≡ pixel_of plane.now x y }
 {
     if plane.len() != PLANE_BYTES {
-        return Read::WrongLength;
+        return Err(WrongLength);
     }
-    if x >= VPU_WIDTH {
-        return Read::Colour(Rgba {
-            r: 0,
-            g: 0,
-            b: 0,
-            a: 0,
-        });
-    }
-    if y >= VPU_HEIGHT {
-        return Read::Colour(Rgba {
-            r: 0,
-            g: 0,
-            b: 0,
-            a: 0,
-        });
+    if x >= VPU_WIDTH || y >= VPU_HEIGHT {
+        return Ok(Rgba::CLEAR);
     }
     let index = (y * VPU_WIDTH + x) * 4;
-    Read::Colour(Rgba {
+    Ok(Rgba {
         r: plane[index],
         g: plane[index + 1],
         b: plane[index + 2],
@@ -81,10 +79,8 @@ fn repeat_before(plane: &mut [u8], size: usize, start: usize, end: usize)
     requires end_in_bounds { end ≤ length plane.old }
     ensures { plane.new ≡ map_range (echo plane.old size start) start end plane.old }
 {
-    let mut i = start;
-    while i < end {
+    for i in start..end {
         plane[i] = plane[i - size];
-        i += 1;
     }
 }
 
@@ -94,10 +90,9 @@ fn fill_row(plane: &mut [u8], y: usize, rgba: Rgba)
     requires y_lt_height { y < height }
     ensures { plane.new ≡ map_range (paint rgba) (y * row_bytes) (y * row_bytes + row_bytes) plane.old }
 {
-    write_pixel(plane, 0, y, rgba);
-    write_pixel(plane, 1, y, rgba);
-    write_pixel(plane, 2, y, rgba);
-    write_pixel(plane, 3, y, rgba);
+    for x in 0..4 {
+        write_pixel(plane, x, y, rgba);
+    }
     let row = y * ROW_BYTES;
     repeat_before(plane, 16, row + 16, row + ROW_BYTES);
 }
@@ -108,9 +103,8 @@ pub fn fill(plane: &mut [u8], rgba: Rgba)
     requires { length plane.old ≡ plane_bytes }
     ensures { plane.new ≡ map_at (paint rgba) plane.old }
 {
-    fill_row(plane, 0, rgba);
-    fill_row(plane, 1, rgba);
-    fill_row(plane, 2, rgba);
-    fill_row(plane, 3, rgba);
+    for y in 0..4 {
+        fill_row(plane, y, rgba);
+    }
     repeat_before(plane, ROW_BYTES * 4, ROW_BYTES * 4, PLANE_BYTES);
 }

@@ -1,15 +1,14 @@
 -- What the commands 01, 02 and 15 set and every float draw reads. Definitions only.
-use Rattle.std.specs.Prelude.{ℕ, ◌*◌, Bool, true, false, cond, ◌&&◌, List, [], ◌∷◌, ◌++◌, eqb, leb, drop, set, replicate, Float}
+use Rattle.std.specs.Prelude.{ℕ, ◌*◌, Bool, false, cond, ◌&&◌, List, ◌++◌, eqb, leb, drop, set, replicate}
+use Rattle.std.specs.List.{list_all}
 use Rattle.std.proofs.Math.Seq.{paste}
-use Rattle.std.specs.Float.Ieee.Scale.{finite}
-use Rattle.ieee.specs.Words.{floats_of}
+use Rattle.ieee.specs.Words.{floats_of, all_finite}
 use Rattle.vector.specs.Matrices.{identity}
 use Rattle.light.specs.Light.{disabled}
 use Rattle.light.specs.declared.Light.{Light}
-use Rattle.verdict.specs.declared.Verdict.{Verdict}
-use Rattle.payload.specs.Words.{and_then, when_done, word_at, three_at, at_most, finite_from}
+use Rattle.verdict.specs.Verdict.{Verdict, and_then}
+use Rattle.payload.specs.Words.{word_at, three_at, at_most, finite_from}
 use Rattle.settings.specs.declared.Settings.{Settings}
-use Rattle.settings.specs.declared.Changed.{Changed}
 
 -- rule 1.9: three identity matrices, shading mode 0, lighting off, eight dark lights
 abbrev pub fresh : Settings
@@ -20,10 +19,7 @@ fresh = record {
   lights = replicate 8 disabled;
 }
 
--- ---- the three commands: what each refuses, and what it sets. `changed v new old`: the verdict, and the settings afterwards
-abbrev pub changed : Verdict → Settings → Settings → Changed
-changed v new old = record { verdict = v; settings = when_done v new old }
-
+-- ---- the three commands: what each refuses, and what it sets
 -- rule 3.7
 unfoldable pub mode_verdict : List ℕ → Verdict
 mode_verdict p = and_then (at_most p 0 1) (at_most p 1 1)
@@ -69,18 +65,11 @@ with_light s p = record {
 }
 
 -- ---- rule 1.10
-unfoldable pub all_of : {A : Type 0} → (A → Bool) → List A → Bool
-all_of f [] = true
-all_of f (x ∷ l) = f x && all_of f l
-
-abbrev pub finite_list : List Float → Bool
-finite_list l = all_of finite l
-
 unfoldable pub light_ok : Light → Bool
-light_ok l = finite_list l.ambient && (finite_list l.diffuse && (finite_list l.specular && (finite_list l.emission && finite_list l.position)))
+light_ok l = all_finite l.ambient && (all_finite l.diffuse && (all_finite l.specular && (all_finite l.emission && all_finite l.position)))
 
 abbrev pub lights_ok : List Light → Bool
-lights_ok ls = all_of light_ok ls
+lights_ok ls = list_all light_ok ls
 
 unfoldable pub settings_ok : Settings → Bool
-settings_ok s = finite_list s.matrices && (leb s.shading_mode 1 && lights_ok s.lights)
+settings_ok s = all_finite s.matrices && (leb s.shading_mode 1 && lights_ok s.lights)

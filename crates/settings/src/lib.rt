@@ -2,26 +2,22 @@
 #![tactic(auto)]
 
 ghost use Rattle.std.specs.Prelude.{◌≡◌, ◌≤◌, length, get_or};
-ghost use Rattle.settings.specs.Settings.{fresh, changed, mode_verdict, with_mode, matrix_verdict, with_matrix, light_verdict, light_of, with_light};
+ghost use Rattle.verdict.specs.Verdict.{passed};
+ghost use Rattle.settings.specs.Settings.{fresh, mode_verdict, with_mode, matrix_verdict, with_matrix, light_verdict, light_of, with_light};
 
 use light::Light;
 use verdict::Verdict;
 
 pub mod valid;
 
-#[derive(Clone, Copy)]
+#[derive(Clone, Copy, Debug, PartialEq)]
 pub struct Settings {
     pub matrices: [f32; 48],
+    // Stays: a number, since a host hands settings in with a state, and `settings_ok` says that it
+    // is 0 or 1 (`mode_not`); an enum would ask that of the host before.
     pub shading_mode: u32,
     pub lighting_enabled: bool,
     pub lights: [Light; 8],
-}
-
-// What a command comes to, and the settings after it.
-#[derive(Clone, Copy)]
-pub struct Changed {
-    pub verdict: Verdict,
-    pub settings: Settings,
 }
 
 impl Settings {
@@ -44,11 +40,13 @@ impl Settings {
     }
 }
 
+#[tactic(auto, unfolding(crate::specs::Settings::mode_verdict))]
 fn mode_verdict(p: &[u32]) -> Verdict
     requires { length p.now ≡ 2 }
     ensures { result ≡ mode_verdict p.now }
 {
-    verdict::and_then(payload::at_most(p, 0, 1), payload::at_most(p, 1, 1))
+    payload::at_most(p, 0, 1)?;
+    payload::at_most(p, 1, 1)
 }
 
 #[tactic(auto, unfolding(crate::specs::Settings::with_mode))]
@@ -59,35 +57,28 @@ fn with_mode(s: Settings, p: &[u32]) -> Settings
     let mut after = s;
     if p[0] == 0 {
         after.shading_mode = p[1];
-        return after;
+    } else {
+        after.lighting_enabled = p[1] == 1;
     }
-    after.lighting_enabled = p[1] == 1;
     after
 }
 
 // Command 01: word 0 says whether word 1 is the shading mode or switches lighting.
-pub fn set_mode(s: Settings, p: &[u32]) -> Changed
+pub fn set_mode(s: Settings, p: &[u32]) -> Verdict<Settings>
     requires { length p.now ≡ 2 }
-    ensures { result ≡ changed (mode_verdict p.now) (with_mode s p.now) s }
+    ensures { result ≡ passed (mode_verdict p.now) (with_mode s p.now) }
 {
-    let verdict = mode_verdict(p);
-    let Verdict::Done = verdict else {
-        return Changed {
-            verdict: verdict,
-            settings: s,
-        };
-    };
-    Changed {
-        verdict: verdict,
-        settings: with_mode(s, p),
-    }
+    mode_verdict(p)?;
+    Ok(with_mode(s, p))
 }
 
+#[tactic(auto, unfolding(crate::specs::Settings::matrix_verdict))]
 fn matrix_verdict(p: &[u32]) -> Verdict
     requires { length p.now ≡ 17 }
     ensures { result ≡ matrix_verdict p.now }
 {
-    verdict::and_then(payload::at_most(p, 0, 2), payload::finite_from(p, 1, 16))
+    payload::at_most(p, 0, 2)?;
+    payload::finite_from(p, 1, 16)
 }
 
 fn with_matrix(s: Settings, p: &[u32]) -> Settings
@@ -95,41 +86,29 @@ fn with_matrix(s: Settings, p: &[u32]) -> Settings
     requires p_bound { get_or p.now 0 0 ≤ 2 }
     ensures { result ≡ with_matrix s p.now }
 {
-    let mut matrices = s.matrices;
-    let at = p[0] as usize * 16;
-    let end = at + 16;
-    ieee::bits::floats_of(&p[1..], &mut matrices[at..end]);
     let mut after = s;
-    after.matrices = matrices;
+    let at = p[0] as usize * 16;
+    ieee::bits::floats_of(&p[1..], &mut after.matrices[at..at + 16]);
     after
 }
 
 // Command 02: the matrix's number, and its sixteen cells row by row.
-pub fn set_matrix(s: Settings, p: &[u32]) -> Changed
+pub fn set_matrix(s: Settings, p: &[u32]) -> Verdict<Settings>
     requires { length p.now ≡ 17 }
-    ensures { result ≡ changed (matrix_verdict p.now) (with_matrix s p.now) s }
+    ensures { result ≡ passed (matrix_verdict p.now) (with_matrix s p.now) }
 {
-    let verdict = matrix_verdict(p);
-    let Verdict::Done = verdict else {
-        return Changed {
-            verdict: verdict,
-            settings: s,
-        };
-    };
-    Changed {
-        verdict: verdict,
-        settings: with_matrix(s, p),
-    }
+    matrix_verdict(p)?;
+    Ok(with_matrix(s, p))
 }
 
+#[tactic(auto, unfolding(crate::specs::Settings::light_verdict))]
 fn light_verdict(p: &[u32]) -> Verdict
     requires { length p.now ≡ 17 }
     ensures { result ≡ light_verdict p.now }
 {
-    verdict::and_then(
-        payload::at_most(p, 0, 7),
-        verdict::and_then(payload::at_most(p, 1, 1), payload::finite_from(p, 2, 15)),
-    )
+    payload::at_most(p, 0, 7)?;
+    payload::at_most(p, 1, 1)?;
+    payload::finite_from(p, 2, 15)
 }
 
 fn light_of(p: &[u32]) -> Light
@@ -146,6 +125,7 @@ fn light_of(p: &[u32]) -> Light
     }
 }
 
+#[tactic(auto, unfolding(crate::specs::Settings::with_light))]
 fn with_light(s: Settings, p: &[u32]) -> Settings
     requires p_len { length p.now ≡ 17 }
     requires p_bound { get_or p.now 0 0 ≤ 7 }
@@ -158,19 +138,10 @@ fn with_light(s: Settings, p: &[u32]) -> Settings
 }
 
 // Command 15: the light's number, its switch, and its fifteen floats.
-pub fn set_light(s: Settings, p: &[u32]) -> Changed
+pub fn set_light(s: Settings, p: &[u32]) -> Verdict<Settings>
     requires { length p.now ≡ 17 }
-    ensures { result ≡ changed (light_verdict p.now) (with_light s p.now) s }
+    ensures { result ≡ passed (light_verdict p.now) (with_light s p.now) }
 {
-    let verdict = light_verdict(p);
-    let Verdict::Done = verdict else {
-        return Changed {
-            verdict: verdict,
-            settings: s,
-        };
-    };
-    Changed {
-        verdict: verdict,
-        settings: with_light(s, p),
-    }
+    light_verdict(p)?;
+    Ok(with_light(s, p))
 }

@@ -14,8 +14,8 @@ use Rattle.laws.proofs.Cells.{get_or-map_at}
 use Rattle.laws.proofs.Bools.{and_left}
 use Rattle.screen.specs.Plane.{width, paint, shown}
 use Rattle.texel.specs.Texel.{texel_at}
+use Rattle.verdict.specs.Verdict.{done, refused}
 use Rattle.verdict.specs.declared.Reason.TheVariants.{OutOfRange}
-use Rattle.verdict.specs.declared.Verdict.TheVariants.{Done, Refused}
 use Rattle.flat.specs.Words.{signed_at, in_reach}
 use Rattle.sprite.specs.declared.words.Sprite.{Sprite}
 use Rattle.sprite.specs.Sprite.{offset, under, covers, place_of, over, sprite_byte, sprite_plane}
@@ -82,11 +82,11 @@ module _ (s : Sprite) (T P : List ℕ) (j : ℕ) (l : j < length P) where
 
 -- ---- the limits: a rectangle that ends at both edges of its texture, and the farthest target, are taken
 module _ (p : List ℕ) (w h : ℕ) (a : get_or p 3 0 ≡ 0 → ⊥) (b : get_or p 4 0 ≡ 0 → ⊥) where
-  pub at_limit : get_or p 1 0 + get_or p 3 0 ≡ w → get_or p 2 0 + get_or p 4 0 ≡ h → signed_at p 5 ≡ pos 8192 → signed_at p 6 ≡ negsuc 8191 → fit_verdict p w h ≡ Done
+  pub at_limit : get_or p 1 0 + get_or p 3 0 ≡ w → get_or p 2 0 + get_or p 4 0 ≡ h → signed_at p 5 ≡ pos 8192 → signed_at p 6 ≡ negsuc 8191 → fit_verdict p w h ≡ done
   unfolding in_reach
   at_limit c d x y =
       targets p w h a b (le-leb (get_or p 1 0 + get_or p 3 0) w (omega arith)) (le-leb (get_or p 2 0 + get_or p 4 0) h (omega arith)) ∙ target_in p (rw x) (rw y)
 
   -- the sum does not wrap: 4294967295 and 2 are not 1
-  pub not_wrapped : get_or p 1 0 ≡ 4294967295 → get_or p 3 0 ≡ 2 → w ≤ 1024 → fit_verdict p w h ≡ Refused OutOfRange 3
+  pub not_wrapped : get_or p 1 0 ≡ 4294967295 → get_or p 3 0 ≡ 2 → w ≤ 1024 → fit_verdict p w h ≡ refused OutOfRange 3
   not_wrapped c d l = sideways p w h a b (lt-leb (get_or p 1 0 + get_or p 3 0) w (omega arith))

@@ -9,31 +9,30 @@ use borrow.Author.Tests.{leb-true, eq-eqb, ne_eqb}
 use lib.Dec.{eqb, leb}
 use lib.ListN.{get_or}
 use Rattle.verdict.specs.declared.Reason.{Reason}
+use Rattle.verdict.specs.Verdict.{Verdict, done, refused}
 use Rattle.verdict.specs.declared.Reason.TheVariants.{OutOfRange}
-use Rattle.verdict.specs.declared.Verdict.{Verdict}
-use Rattle.verdict.specs.declared.Verdict.TheVariants.{Done, Refused}
 use Rattle.flat.specs.Words.{signed_at, in_reach, first_out}
 use Rattle.flat.proofs.Placed.{first_in}
 use Rattle.sprite.specs.Words.{sprite_of, fit_verdict}
 use Rattle.sprite.specs.Spans.{Placed}
 
 module _ (p : List ℕ) (w h : ℕ) where
-  pub no_width : get_or p 3 0 ≡ 0 → fit_verdict p w h ≡ Refused OutOfRange 3
+  pub no_width : get_or p 3 0 ≡ 0 → fit_verdict p w h ≡ refused OutOfRange 3
   unfolding fit_verdict
   no_width a = rw (eq-eqb (get_or p 3 0) 0 a)
 
   module _ (a : get_or p 3 0 ≡ 0 → ⊥) where
-    pub no_height : get_or p 4 0 ≡ 0 → fit_verdict p w h ≡ Refused OutOfRange 4
+    pub no_height : get_or p 4 0 ≡ 0 → fit_verdict p w h ≡ refused OutOfRange 4
     unfolding fit_verdict
     no_height b = rw (ne_eqb (get_or p 3 0) 0 a, eq-eqb (get_or p 4 0) 0 b)
 
     module _ (b : get_or p 4 0 ≡ 0 → ⊥) where
-      pub sideways : leb (get_or p 1 0 + get_or p 3 0) w ≡ false → fit_verdict p w h ≡ Refused OutOfRange 3
+      pub sideways : leb (get_or p 1 0 + get_or p 3 0) w ≡ false → fit_verdict p w h ≡ refused OutOfRange 3
       unfolding fit_verdict
       sideways c = rw (ne_eqb (get_or p 3 0) 0 a, ne_eqb (get_or p 4 0) 0 b, c)
 
       module _ (c : leb (get_or p 1 0 + get_or p 3 0) w ≡ true) where
-        pub downwards : leb (get_or p 2 0 + get_or p 4 0) h ≡ false → fit_verdict p w h ≡ Refused OutOfRange 4
+        pub downwards : leb (get_or p 2 0 + get_or p 4 0) h ≡ false → fit_verdict p w h ≡ refused OutOfRange 4
         unfolding fit_verdict
         downwards d = rw (ne_eqb (get_or p 3 0) 0 a, ne_eqb (get_or p 4 0) 0 b, c, d)
 
@@ -43,29 +42,26 @@ module _ (p : List ℕ) (w h : ℕ) where
 
 -- the target
 module _ (p : List ℕ) where
-  pub target_x : in_reach (signed_at p 5) ≡ false → first_out p (5 ∷ 6 ∷ []) ≡ Refused OutOfRange 5
+  pub target_x : in_reach (signed_at p 5) ≡ false → first_out p (5 ∷ 6 ∷ []) ≡ refused OutOfRange 5
   target_x e = rw e
 
-  pub target_y : in_reach (signed_at p 5) ≡ true → in_reach (signed_at p 6) ≡ false → first_out p (5 ∷ 6 ∷ []) ≡ Refused OutOfRange 6
+  pub target_y : in_reach (signed_at p 5) ≡ true → in_reach (signed_at p 6) ≡ false → first_out p (5 ∷ 6 ∷ []) ≡ refused OutOfRange 6
   target_y d e = rw (d, e)
 
-  pub target_in : in_reach (signed_at p 5) ≡ true → in_reach (signed_at p 6) ≡ true → first_out p (5 ∷ 6 ∷ []) ≡ Done
+  pub target_in : in_reach (signed_at p 5) ≡ true → in_reach (signed_at p 6) ≡ true → first_out p (5 ∷ 6 ∷ []) ≡ done
   target_in d e = rw (d, e)
 
 -- ---- what a passed check says
-never : {A : Type 0} (r : Reason) (i : ℕ) → Refused r i ≡ Done → A
-never r i e = let z : ◌≡◌ {A = ℕ} 0 1 = cc in absurd (omega arith)
-
-past : (t : Bool) (r : Reason) (i : ℕ) (v : Verdict) → cond t (Refused r i) v ≡ Done → v ≡ Done
-past true r i v e = never r i e
+past : (t : Bool) (r : Reason) (i : ℕ) (v : Verdict) → cond t (refused r i) v ≡ done → v ≡ done
+past true r i v e = cc
 past false r i v e = e
 
-met : (t : Bool) (r : Reason) (i : ℕ) (v : Verdict) → cond t v (Refused r i) ≡ Done → (t ≡ true) × (v ≡ Done)
+met : (t : Bool) (r : Reason) (i : ℕ) (v : Verdict) → cond t v (refused r i) ≡ done → (t ≡ true) × (v ≡ done)
 met true r i v e = (refl, e)
-met false r i v e = never r i e
+met false r i v e = absurd cc
 
 -- in a texture of at most 1024 by 1024, in n words
-pub done-placed : (p : List ℕ) (w h n : ℕ) → w ≤ 1024 → h ≤ 1024 → n ≡ (w * h + 1) / 2 → fit_verdict p w h ≡ Done → Placed (sprite_of p w) n
+pub done-placed : (p : List ℕ) (w h n : ℕ) → w ≤ 1024 → h ≤ 1024 → n ≡ (w * h + 1) / 2 → fit_verdict p w h ≡ done → Placed (sprite_of p w) n
 unfolding fit_verdict sprite_of
 done-placed p w h n tw th en e =
     let across = met (leb (get_or p 1 0 + get_or p 3 0) w) OutOfRange 3 _ (past (eqb (get_or p 4 0) 0) OutOfRange 4 _ (past (eqb (get_or p 3 0) 0) OutOfRange 3 _ e)) in

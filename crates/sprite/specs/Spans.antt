@@ -16,9 +16,6 @@ pub record Placed (s : Sprite) (n : ℕ) : Type 0 where
   pub top_width : s.stride ≤ 1024
   pub top_height : s.source_y + s.height ≤ 1024
 
-abbrev pub spanned : ℕ → ℕ → ℕ → Span
-spanned start end skip = record { start = start; end = end; skip = skip }
-
 -- of the n columns of the screen, those from r.start to r.end are under a sprite of `size` columns that begins at `at`, and no others
 pub record Reached (at : ℤ) (size n : ℕ) (r : Span) : Type 0 where
   pub ordered : r.start ≤ r.end

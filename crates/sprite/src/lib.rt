@@ -8,15 +8,18 @@ ghost use Rattle.store.specs.Slots.{slots_ok, look_in};
 ghost use Rattle.store.specs.declared.Kind.TheVariants as kind;
 ghost use Rattle.sprite.specs.Words.{sprite_verdict, sprite_drawn};
 
-use store::{Found, Kind, SLOTS, Slot};
+use crate::cutout::Cutout;
+use store::{Kind, SLOTS, Slot};
 use verdict::{Verdict, not_held};
 
+pub mod cutout;
 pub mod draw;
 pub mod span;
 pub mod tone;
 pub mod words;
 
 // Neither depth buffer is lent: a sprite cannot read or write one.
+#[tactic(auto, unfolding(crate::specs::Words::sprite_verdict, crate::specs::Words::sprite_drawn))]
 pub fn draw_sprite(plane: &mut [u8], p: &[u32], slots: [Slot; SLOTS], textures: &[u32]) -> Verdict
     requires plane_len { length plane.old ≡ plane_bytes }
     requires p_len { length p.now ≡ 7 }
@@ -24,17 +27,12 @@ pub fn draw_sprite(plane: &mut [u8], p: &[u32], slots: [Slot; SLOTS], textures: 
     ensures value { result ≡ sprite_verdict p.now (look_in kind.Texture slots textures.now (get_or p.now 0 0)) }
     ensures plane_after { plane.new ≡ sprite_drawn p.now (look_in kind.Texture slots textures.now (get_or p.now 0 0)) plane.old }
 {
-    let found = store::slots::find(slots, p[0]);
-    let Found::At(slot) = found else {
-        return not_held();
-    };
-    let verdict = words::verdict_of(p, slot.width, slot.height);
-    let Verdict::Done = verdict else {
-        return verdict;
-    };
+    let slot = store::slots::find(slots, p[0]).ok_or(not_held())?;
+    words::verdict_of(p, slot.width, slot.height)?;
     let start = slot.start as usize;
     let size = store::slots::area(Kind::Texture, slot.width, slot.height);
     let sprite = words::sprite_of(p, slot.width);
-    draw::draw(plane, &textures[start..start + size], sprite);
-    verdict
+    let texels = &textures[start..start + size];
+    draw::draw(plane, Cutout { sprite, texels });
+    Ok(())
 }

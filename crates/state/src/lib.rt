@@ -14,7 +14,9 @@ pub const MAX_COMMAND_WORDS: u32 = 524291;
 
 // What the words so far have set, sent and begun. `gathered` words of the begun command are in the
 // command area, and `wanted` are missing.
-#[derive(Clone, Copy)]
+// Stays: the three are numbers, with opcode 0 for no command, since a host hands a state in and
+// `begun_ok` says which it may have; an Option of a begun command would ask that of the host before.
+#[derive(Clone, Copy, Debug, PartialEq)]
 pub struct State {
     pub settings: Settings,
     pub textures: [Slot; SLOTS],
@@ -44,38 +46,23 @@ impl State {
     }
 }
 
+#[tactic(auto, unfolding(crate::specs::State::begun_ok))]
 fn begun_ok(opcode: u32, gathered: u32, wanted: u32) -> bool
     ensures { result ≡ begun_ok opcode gathered wanted }
 {
     if opcode == 0 {
-        if gathered == 0 {
-            return wanted == 0;
-        }
-        return false;
+        gathered == 0 && wanted == 0
+    } else {
+        opcode <= 255 && wanted > 0 && gathered as u64 + wanted as u64 <= MAX_COMMAND_WORDS as u64
     }
-    if opcode > 255 {
-        return false;
-    }
-    if wanted == 0 {
-        return false;
-    }
-    (gathered as u64) + (wanted as u64) <= (MAX_COMMAND_WORDS as u64)
 }
 
+#[tactic(auto, unfolding(crate::specs::State::well_formed))]
 pub fn well_formed(state: State, texture_len: usize, model_len: usize) -> bool
     ensures { result ≡ well_formed state texture_len model_len }
 {
-    let set = state.settings;
-    if !settings::valid::settings_ok(set) {
-        return false;
-    }
-    if !begun_ok(state.opcode, state.gathered, state.wanted) {
-        return false;
-    }
-    let textures = state.textures;
-    if !formed::slots_ok(Kind::Texture, textures, texture_len) {
-        return false;
-    }
-    let models = state.models;
-    formed::slots_ok(Kind::Model, models, model_len)
+    settings::valid::settings_ok(state.settings)
+        && begun_ok(state.opcode, state.gathered, state.wanted)
+        && formed::slots_ok(Kind::Texture, state.textures, texture_len)
+        && formed::slots_ok(Kind::Model, state.models, model_len)
 }

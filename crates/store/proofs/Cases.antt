@@ -7,8 +7,9 @@ use lib.ListN.{length, replicate}
 use Rattle.store.specs.Uploads.{Whole, Card, card, behind, room}
 use Rattle.store.specs.Slots.{whole_of, no_slot, told, view, slot_for, looked, slots_after, words_after}
 use Rattle.store.specs.declared.Slot.{Slot}
-use Rattle.store.specs.declared.Room.{Room}
-use Rattle.store.specs.declared.Room.TheVariants.{Fits, NoWords}
+use Rattle.store.specs.declared.NoRoom.{NoRoom}
+use Rattle.store.specs.declared.NoRoom.TheVariants.{NoWords}
+use Rattle.std.specs.Prelude.{Result, Ok, Err, ⊤}
 use Rattle.store.specs.declared.Kind.TheVariants.{Texture}
 
 -- a texture store
@@ -19,7 +20,7 @@ record Shelf : Type 0 where
 empty : ℕ → Shelf
 empty size = record { slots = replicate 64 no_slot; words = replicate size 0 }
 
-answer : Whole → Shelf → Room
+answer : Whole → Shelf → Result ⊤ NoRoom
 answer u s = room (length s.words) (told Texture s.slots) u.number (length u.words)
 
 -- after an accepted upload
@@ -39,11 +40,11 @@ again = whole_of 1 2 2 (31 ∷ 32 ∷ [])
 both : ℕ → Shelf
 both size = put second (put first (empty size))
 
-case_12_taken : (answer first (empty 4) ≡ Fits) × (answer second (put first (empty 4)) ≡ Fits)
+case_12_taken : (answer first (empty 4) ≡ Ok _) × (answer second (put first (empty 4)) ≡ Ok _)
 unfolding answer put empty first second
 case_12_taken = (refl, refl)
 
-case_12_fits : (answer again (both 4) ≡ Fits) × (answer again (both 6) ≡ Fits)
+case_12_fits : (answer again (both 4) ≡ Ok _) × (answer again (both 6) ≡ Ok _)
 unfolding answer both put empty first second again
 case_12_fits = (refl, refl)
 
@@ -59,7 +60,7 @@ case_12_six = (refl, refl)
 larger : ℕ → Whole
 larger n = whole_of n 2 3 (31 ∷ 32 ∷ 33 ∷ [])
 
-one_too_many : (answer (larger 1) (both 4) ≡ NoWords) × (answer (larger 1) (both 5) ≡ Fits) × (answer (larger 3) (both 6) ≡ NoWords) × (answer (larger 3) (both 7) ≡ Fits)
+one_too_many : (answer (larger 1) (both 4) ≡ Err NoWords) × (answer (larger 1) (both 5) ≡ Ok _) × (answer (larger 3) (both 6) ≡ Err NoWords) × (answer (larger 3) (both 7) ≡ Ok _)
 unfolding answer both put empty first second larger
 one_too_many = (refl, refl, refl, refl)
 
@@ -78,7 +79,7 @@ far = whole_of 0x80000001 2 2 (41 ∷ 42 ∷ [])
 pair : Shelf
 pair = put far (put first (empty 4))
 
-both_held : (answer far (put first (empty 4)) ≡ Fits) × (looked Texture pair.words (slot_for 1 pair.slots) ≡ some first)
+both_held : (answer far (put first (empty 4)) ≡ Ok _) × (looked Texture pair.words (slot_for 1 pair.slots) ≡ some first)
     × (looked Texture pair.words (slot_for 0x80000001 pair.slots) ≡ some far)
 unfolding answer pair put empty first far
 both_held = (refl, refl, refl)

@@ -11,14 +11,14 @@ use Rattle.store.specs.Uploads.{Whole, Card, card, cards, find, is_some, holds, 
 use Rattle.store.specs.Slots.{no_slot, told, view, slot_for, looked, slots_after, words_after, slots_ok}
 use Rattle.store.specs.declared.Slot.{Slot}
 use Rattle.store.specs.declared.Kind.{Kind}
-use Rattle.store.specs.declared.Room.TheVariants.{Fits}
+use Rattle.std.specs.Prelude.{Ok}
 use Rattle.store.proofs.Laws.{find-live, cards-without, words_in, total_found, space}
 use Rattle.store.proofs.Held.{Sized, Formed, Rep, told_is, formed_stored, formed_ok, ok_formed, view-is, length-after, rep_stored}
 use Rattle.store.proofs.Moved.{look_is, holds-cards}
 
 -- an accepted upload keeps slots well formed: slots and the store's length alone
 pub upload-ok : (k : Kind) (size : ℕ) (slots : List Slot) (c : Card) → length slots ≡ 64 → slots_ok k size 0 slots ≡ true → Sized k c
-    → room size (told k slots) c.number c.words ≡ Fits → slots_ok k size 0 (slots_after c (told k slots)) ≡ true
+    → room size (told k slots) c.number c.words ≡ Ok _ → slots_ok k size 0 (slots_after c (told k slots)) ≡ true
 upload-ok k size slots c n h s e =
     let f : Formed k size slots (told k slots) = ok_formed k size slots n h in
     formed_ok (formed_stored c f s (space size (told k slots) c.number c.words f.few e))
@@ -55,7 +55,7 @@ module _ {k : Kind} {size : ℕ} {slots : List Slot} {store : List ℕ} {h : Lis
   keeps_room u = rw (keeps_told, e.long)
 
   -- an upload that is no larger than the last accepted one under its number has room
-  pub keeps_again : (n new : ℕ) (u : Whole) → find n h ≡ some u → new ≤ length u.words → room size (cards (live h)) n new ≡ Fits
+  pub keeps_again : (n new : ℕ) (u : Whole) → find n h ≡ some u → new ≤ length u.words → room size (cards (live h)) n new ≡ Ok _
   keeps_again n new u f small =
       let found : find n (live h) ≡ some u = find-live n h ∙ f in
       let held : holds n (cards (live h)) ≡ true = holds-cards n (live h) ∙ ap is_some found in
@@ -64,7 +64,7 @@ module _ {k : Kind} {size : ℕ} {slots : List Slot} {store : List ℕ} {h : Lis
       rw (held, le-ltb size (total (without n (cards (live h))) + new) left)
 
   -- an accepted upload is one more in the history
-  pub keeps_put : (u : Whole) → Sized k (card u) → room size (cards (live h)) u.number (length u.words) ≡ Fits
+  pub keeps_put : (u : Whole) → Sized k (card u) → room size (cards (live h)) u.number (length u.words) ≡ Ok _
       → Keeps k size (slots_after (card u) (told k slots)) (words_after u.number u.words (view k slots store) store) (u ∷ h)
   keeps_put u s f =
       let left = space (length store) (cards (live h)) u.number (length u.words) e.rep.formed.few (rw e.long f) in

@@ -9,9 +9,9 @@ use lib.ListN.{length, length-append}
 use lib.Dec.{eqb, leb, ltb}
 use borrow.Author.Tests.{eqb-true, eqb-false, ne_eqb, lt-leb, leb-false, ltb-false}
 use Rattle.store.specs.Uploads.{Upload, Whole, Card, card, cards, without, find, is_some, holds, words_of, total, stored, live, counted, room}
-use Rattle.store.specs.Slots.{is_fits}
-use Rattle.store.specs.declared.Room.{Room}
-use Rattle.store.specs.declared.Room.TheVariants.{Fits, NoSlot, NoWords}
+use Rattle.store.specs.declared.NoRoom.{NoRoom}
+use Rattle.store.specs.declared.NoRoom.TheVariants.{NoSlot, NoWords}
+use Rattle.std.specs.Prelude.{Result, Ok, Err, ⊤}
 
 -- two numbers by a test of each against a third
 eqb_same : (a b n : ℕ) → a ≡ b → eqb a n ≡ eqb b n
@@ -212,20 +212,15 @@ pub length-words_of : (us : List Whole) → length (words_of us) ≡ total (card
 length-words_of [] = refl
 length-words_of (u ∷ us) = length-append u.words (words_of us) ∙ ap (λ (n : ℕ). length u.words + n) (length-words_of us)
 
--- ---- what the answer `Fits` gives: the new words fit beside the other numbers', and so does the slot
+-- ---- what the answer that there is room gives: the new words fit beside the other numbers', and so does the slot
 pub record Space (size : ℕ) (cs : List Card) (n new : ℕ) : Type 0 where
   pub words : total (without n cs) + new ≤ size
   pub slot : length (without n cs) < 64
 
-pub space : (size : ℕ) (cs : List Card) (n new : ℕ) → length cs ≤ 64 → room size cs n new ≡ Fits → Space size cs n new
+pub space : (size : ℕ) (cs : List Card) (n new : ℕ) → length cs ≤ 64 → room size cs n new ≡ Ok _ → Space size cs n new
 space size cs n new few h = go (not (holds n cs) && leb 64 (length cs)) (ltb size (counted n cs + new)) refl refl h
   where
-    go : (a b : Bool) → (not (holds n cs) && leb 64 (length cs)) ≡ a → ltb size (counted n cs + new) ≡ b → cond a NoSlot (cond b NoWords Fits) ≡ Fits → Space size cs n new
+    go : (a b : Bool) → (not (holds n cs) && leb 64 (length cs)) ≡ a → ltb size (counted n cs + new) ≡ b → ◌≡◌ {A = Result ⊤ NoRoom} (cond a (Err NoSlot) (cond b (Err NoWords) (Ok _))) (Ok _) → Space size cs n new
     go true b e f h = absurd (let z : ◌≡◌ {A = ℕ} 0 1 = cc in omega arith)
     go false true e f h = absurd (let z : ◌≡◌ {A = ℕ} 0 1 = cc in omega arith)
     go false false e f h = record { words = omega (arith, ltb-false size (counted n cs + new) f); slot = omega (arith, leb-false 64 (length (without n cs)) (sym (slot_beside n cs few) ∙ e)) }
-
-pub is-fits : (r : Room) → is_fits r ≡ true → r ≡ Fits
-is-fits Fits h = refl
-is-fits NoSlot h = absurd (false≢true h)
-is-fits NoWords h = absurd (false≢true h)

@@ -14,8 +14,7 @@ use Rattle.store.specs.Uploads.{Whole, Card, card, cards, without, find, is_some
 use Rattle.store.specs.Slots.{area_of, sides_ok, no_slot, slot_of, place, told, upload_at, view, slot_for, looked, over, words_after, slots_ok}
 use Rattle.store.specs.declared.Slot.{Slot}
 use Rattle.store.specs.declared.Kind.{Kind}
-use Rattle.store.specs.declared.Found.{Found}
-use Rattle.store.specs.declared.Found.TheVariants.{At, Nothing}
+use Rattle.std.specs.Prelude.{Option, Some, None}
 use Rattle.store.proofs.Laws.{Apart, without-none, all_mid, cards-append, cards-without, total-append, words_of-append, length-words_of}
 use Rattle.store.proofs.Walk.{none-holds}
 use Rattle.store.proofs.Held.{Sized, Rep, ok_rep, view-told}
@@ -26,7 +25,7 @@ look_is k n [] store = refl
 look_is k n (s ∷ ss) store = go s.held (eqb s.number n) refl (look_is k n ss store)
   where
     go : (a b : Bool) → eqb s.number n ≡ b → looked k store (slot_for n ss) ≡ find n (view k ss store)
-        → looked k store (cond (a && b) (At s) (slot_for n ss)) ≡ find n (cond a (upload_at k s store ∷ view k ss store) (view k ss store))
+        → looked k store (cond (a && b) (Some s) (slot_for n ss)) ≡ find n (cond a (upload_at k s store ∷ view k ss store) (view k ss store))
     go true true e ih = rw e
     go true false e ih = rw e ih
     go false b e ih = ih
@@ -49,16 +48,16 @@ record Old (n at : ℕ) (us : List Whole) (s : Slot) : Type 0 where
   later : behind n (cards us) ≡ total (cards ys)
   slot : s ≡ slot_of (at + total (cards xs)) (card v)
 
-none_free : (n m : ℕ) → slot_for n (replicate m no_slot) ≡ Nothing
+none_free : (n m : ℕ) → slot_for n (replicate m no_slot) ≡ None
 none_free n zero = refl
 none_free n (suc m) = none_free n m
 
-old_of : (n at m : ℕ) (us : List Whole) (s : Slot) → Apart (cards us) → slot_for n (place at (cards us) ++ replicate m no_slot) ≡ At s → Old n at us s
+old_of : (n at m : ℕ) (us : List Whole) (s : Slot) → Apart (cards us) → slot_for n (place at (cards us) ++ replicate m no_slot) ≡ Some s → Old n at us s
 old_of n at m [] s d e = absurd (let z : ◌≡◌ {A = ℕ} 0 1 = cc (none_free n m) in omega arith)
 old_of n at m (u ∷ us) s d e = go (eqb u.number n) refl e (old_of n (at + length u.words) m us s d.1)
   where
-    go : (b : Bool) → eqb u.number n ≡ b → cond b (At (slot_of at (card u))) (slot_for n (place (at + length u.words) (cards us) ++ replicate m no_slot)) ≡ At s
-        → (slot_for n (place (at + length u.words) (cards us) ++ replicate m no_slot) ≡ At s → Old n (at + length u.words) us s) → Old n at (u ∷ us) s
+    go : (b : Bool) → eqb u.number n ≡ b → cond b (Some (slot_of at (card u))) (slot_for n (place (at + length u.words) (cards us) ++ replicate m no_slot)) ≡ Some s
+        → (slot_for n (place (at + length u.words) (cards us) ++ replicate m no_slot) ≡ Some s → Old n (at + length u.words) us s) → Old n at (u ∷ us) s
     go true b e ih = record {
       xs = [];
       v = u;
@@ -131,11 +130,11 @@ module _ (k : Kind) (slots : List Slot) (store : List ℕ) (n : ℕ) (long : len
   total-fits = omega (arith, total-is, rep.formed.fits)
 
   -- nothing is under the number: the words of the others are all that there are
-  pub put-new : (ws : List ℕ) (others : ℕ) → slot_for n slots ≡ Nothing → others ≡ total (without n (told k slots))
+  pub put-new : (ws : List ℕ) (others : ℕ) → slot_for n slots ≡ None → others ≡ total (without n (told k slots))
       → over others (take others store ++ ws) store ≡ words_after n ws (view k slots store) store
   put-new ws others e p =
       let us : List Whole = view k slots store in
-      let free : holds n us ≡ false = ap is_some (sym (look_is k n slots store)) ∙ ap (λ (f : Found). is_some (looked k store f)) e in
+      let free : holds n us ≡ false = ap is_some (sym (look_is k n slots store)) ∙ ap (λ (f : Option Slot). is_some (looked k store f)) e in
       let same : without n us ≡ us = without-none n us free in
       let all : others ≡ total (cards us) = p ∙ ap total (without-none n (told k slots) (none-holds k n slots e)) ∙ total-is in
       last n ws us store store others others all (rw same all) (omega arith) (rw (same, all) rep.words_are)
@@ -149,7 +148,7 @@ module _ (k : Kind) (slots : List Slot) (store : List ℕ) (n : ℕ) (long : len
         ≡ words_of (without n (view k slots store)) ++ drop (total (without n (told k slots))) store
     pub later : behind n (told k slots) ≡ total (told k slots) - (s.start + area_of k s.width s.height)
 
-  pub spot : (s : Slot) → slot_for n slots ≡ At s → Spot s
+  pub spot : (s : Slot) → slot_for n slots ≡ Some s → Spot s
   spot s e =
       let us : List Whole = view k slots store in
       let cs : List Card = cards us in
@@ -181,10 +180,10 @@ module _ (k : Kind) (slots : List Slot) (store : List ℕ) (n : ℕ) (long : len
       }
 
   -- rule 8.8: a number that is held moves the words from the end of its old upload to the end of all
-  pub moves_behind : (s : Slot) → slot_for n slots ≡ At s → behind n (told k slots) ≡ total (told k slots) - (s.start + area_of k s.width s.height)
+  pub moves_behind : (s : Slot) → slot_for n slots ≡ Some s → behind n (told k slots) ≡ total (told k slots) - (s.start + area_of k s.width s.height)
   moves_behind s e = (spot s e).later
 
-  pub put_old : (ws st : List ℕ) (s : Slot) (size others : ℕ) → slot_for n slots ≡ At s → size ≡ area_of k s.width s.height → others ≡ total (without n (told k slots))
+  pub put_old : (ws st : List ℕ) (s : Slot) (size others : ℕ) → slot_for n slots ≡ Some s → size ≡ area_of k s.width s.height → others ≡ total (without n (told k slots))
       → st ≡ paste store s.start (drop (s.start + size) store) (others + size - (s.start + size)) → over (others + size) (take others st ++ ws) st ≡ words_after n ws (view k slots store) store
   put_old ws st s size others e p q h =
       let us : List Whole = view k slots store in

@@ -12,12 +12,6 @@ module _ (d ws : List ℕ) (at old : ℕ) (fits : at + length ws ≤ length d) w
   long = length-append (take at d) ws ∙ ap (λ (n : ℕ). n + length ws) (length-take-le at d (omega arith))
 
   -- nothing to make zero
-  pub last_none : old ≤ at + length ws → paste d at ws (length ws) ≡ over old (take at d ++ ws) d
-  last_none h =
-      let none : old - (at + length ws) ≡ 0 = omega arith in
-      let end : max old (at + length ws) ≡ at + length ws = omega arith in
-      rw (long, take-length, none, end)
-
   pub last_zero : at + length ws < old
       → paste (paste d at ws (length ws)) (at + length ws) (replicate (old - (at + length ws)) 0) (old - (at + length ws)) ≡ over old (take at d ++ ws) d
   last_zero h =

@@ -10,7 +10,7 @@ use lib.Seq.{length-take-le}
 use Rattle.store.specs.Slots.{area_of, sides_ok, upload_at, slot_for, look_in, slots_ok}
 use Rattle.store.specs.declared.Slot.{Slot}
 use Rattle.store.specs.declared.Kind.{Kind}
-use Rattle.store.specs.declared.Found.TheVariants.{At}
+use Rattle.std.specs.Prelude.{Some}
 use Rattle.store.proofs.Moved.{total-fits, spot}
 
 -- its part of the words
@@ -23,10 +23,10 @@ pub part_long : (store : List ℕ) (start size area : ℕ) → size ≡ area →
 part_long store start size area e h = rw (part_is store start size area e) (length-take-le area (drop start store) (omega (arith, length-drop start store)))
 
 module _ (k : Kind) (slots : List Slot) (store : List ℕ) (n : ℕ) where
-  pub look_some : (slot : Slot) → slot_for n slots ≡ At slot → look_in k slots store n ≡ some (upload_at k slot store)
+  pub look_some : (slot : Slot) → slot_for n slots ≡ Some slot → look_in k slots store n ≡ some (upload_at k slot store)
   look_some slot e = rw e
 
-  module _ (long : length slots ≡ 64) (ok : slots_ok k (length store) 0 slots ≡ true) (slot : Slot) (found : slot_for n slots ≡ At slot) where
+  module _ (long : length slots ≡ 64) (ok : slots_ok k (length store) 0 slots ≡ true) (slot : Slot) (found : slot_for n slots ≡ Some slot) where
     pub sides-at : sides_ok k slot.width slot.height ≡ true
     sides-at = (spot k slots store n long ok slot found).sides
 

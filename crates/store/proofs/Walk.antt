@@ -18,8 +18,7 @@ use Rattle.store.specs.Slots.{area_of, sides_ok, no_slot, slot_of, place, slots_
 use Rattle.store.specs.declared.Slot.{Slot}
 use Rattle.store.specs.declared.Kind.{Kind}
 use Rattle.store.specs.declared.Kind.TheVariants.{Texture, Model}
-use Rattle.store.specs.declared.Found.{Found}
-use Rattle.store.specs.declared.Found.TheVariants.{At, Nothing}
+use Rattle.std.specs.Prelude.{Option, Some, None}
 
 -- ---- slots back to back
 pub place-append : (at : ℕ) (xs ys : List Card) → place at (xs ++ ys) ≡ place at xs ++ place (at + total xs) ys
@@ -62,29 +61,26 @@ length-told k (s ∷ ss) = go s.held (length-told k ss)
     go false ih = omega arith
 
 -- ---- the search finds a number exactly if a held slot has it
-abbrev is_found : Found → Bool
-is_found (At s) = true
-is_found Nothing = false
+abbrev is_found : Option Slot → Bool
+is_found (Some s) = true
+is_found None = false
 
 found_holds : (k : Kind) (n : ℕ) (ss : List Slot) → holds n (told k ss) ≡ is_found (slot_for n ss)
 found_holds k n [] = refl
 found_holds k n (s ∷ ss) = go s.held (eqb s.number n) refl (found_holds k n ss)
   where
     go : (a b : Bool) → eqb s.number n ≡ b → holds n (told k ss) ≡ is_found (slot_for n ss)
-        → holds n (cond a (card_at k s ∷ told k ss) (told k ss)) ≡ is_found (cond (a && b) (At s) (slot_for n ss))
+        → holds n (cond a (card_at k s ∷ told k ss) (told k ss)) ≡ is_found (cond (a && b) (Some s) (slot_for n ss))
     go true true e ih = rw e
     go true false e ih = rw e ih
     go false b e ih = ih
 
-pub none-holds : (k : Kind) (n : ℕ) (ss : List Slot) → slot_for n ss ≡ Nothing → holds n (told k ss) ≡ false
+pub none-holds : (k : Kind) (n : ℕ) (ss : List Slot) → slot_for n ss ≡ None → holds n (told k ss) ≡ false
 none-holds k n ss e = found_holds k n ss ∙ ap is_found e
 
 -- the cards of the numbers other than n, up to index i
 abbrev pub kept : Kind → ℕ → ℕ → List Slot → List Card
 kept k n i ss = without n (told k (take i ss))
-
-pub kept-all : (k : Kind) (n i : ℕ) (ss : List Slot) → length ss ≤ i → kept k n i ss ≡ without n (told k ss)
-kept-all k n i ss h = ap (λ (l : List Slot). without n (told k l)) (lib.Seq.take_all i ss h)
 
 pub kept_count : (k : Kind) (n i : ℕ) (ss : List Slot) → i ≤ length ss → length (kept k n i ss) ≤ i
 kept_count k n i ss h = omega (arith, length_without n (told k (take i ss)), length-told k (take i ss), length-take-le i ss h)
@@ -106,16 +102,6 @@ module _ (ss : List Slot) (i : ℕ) (here : i < length ss) where
 
   pub slots-from : drop i ss ≡ s ∷ drop (i + 1) ss
   slots-from = drop-cons ss i no_slot here ∙ ap (λ (n : ℕ). s ∷ drop n ss) (sym (add-one i))
-
-  -- find
-  pub found_here : (n : ℕ) → s.held ≡ true → s.number ≡ n → slot_for n (drop i ss) ≡ At s
-  found_here n a b = rw (slots-from, a, eq-eqb _ _ b)
-
-  pub found_unheld : (n : ℕ) → s.held ≡ false → slot_for n (drop i ss) ≡ slot_for n (drop (i + 1) ss)
-  found_unheld n a = rw (slots-from, a)
-
-  pub found_other : (n : ℕ) → s.held ≡ true → (s.number ≡ n → ⊥) → slot_for n (drop i ss) ≡ slot_for n (drop (i + 1) ss)
-  found_other n a b = rw (slots-from, a, ne_eqb _ _ b)
 
   -- used_by_others, others
   kept_next : (k : Kind) (n : ℕ) → kept k n (i + 1) ss ≡ kept k n i ss ++ without n (told k (s ∷ []))
@@ -214,9 +200,6 @@ pub record Packed (k : Kind) (n : ℕ) (ss : List Slot) (i : ℕ) (out : List Sl
   pub slots : out ≡ slots_of (kept k n i ss)
 
 module _ {k : Kind} {n : ℕ} {ss : List Slot} {i : ℕ} {out : List Slot} {count sum : ℕ} (p : Packed k n ss i out count sum) where
-  pub packed_length : length out ≡ 64
-  packed_length = ap length p.slots ∙ length-slots_of (kept k n i ss) (omega (arith, tally_count p.tally, p.tally.within, p.tally.count_is))
-
   module _ (here : i < 64) where
     pub packed_more : (area : ℕ) → stays n (get_or ss i no_slot) ≡ true → area ≡ area_of k (get_or ss i no_slot).width (get_or ss i no_slot).height
         → Packed k n ss (i + 1) (set out count (slot_of sum (card_at k (get_or ss i no_slot)))) (count + 1) (sum + area)

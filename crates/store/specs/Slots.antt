@@ -1,15 +1,12 @@
 -- A store as the machine has it: 64 slots, and the lent words. Assumes nothing.
-use Rattle.std.specs.Prelude.{ℕ, ◌+◌, ◌-◌, ◌*◌, ◌/◌, max, ◌≡◌, Bool, true, false, cond, not, ◌&&◌, List, [], ◌∷◌, ◌++◌, length, take, drop, replicate, eqb, leb, ltb}
-use Rattle.std.proofs.Math.Option.{Option, none, some}
+use Rattle.std.specs.Prelude.{ℕ, ◌+◌, ◌-◌, ◌*◌, ◌/◌, max, ◌≡◌, Bool, true, false, cond, not, ◌&&◌, List, [], ◌∷◌, ◌++◌, length, take, drop, replicate, eqb, leb, ltb, Option, Some, None, Result, Ok, Err, ⊤}
+use Rattle.std.proofs.Math.Option as past
+use Rattle.std.proofs.Math.Option.{none, some}
 use Rattle.store.specs.Uploads.{Whole, Card, card, cards, without, stored, words_of, total, slot_count, room}
 use Rattle.store.specs.declared.Slot.{Slot}
-use Rattle.store.specs.declared.Stored.{Stored}
-use Rattle.store.specs.declared.Room.{Room}
-use Rattle.store.specs.declared.Room.TheVariants.{Fits, NoSlot, NoWords}
+use Rattle.store.specs.declared.NoRoom.{NoRoom}
 use Rattle.store.specs.declared.Kind.{Kind}
 use Rattle.store.specs.declared.Kind.TheVariants.{Texture, Model}
-use Rattle.store.specs.declared.Found.{Found}
-use Rattle.store.specs.declared.Found.TheVariants.{At, Nothing}
 
 -- rule 8.2: how many words an upload takes
 abbrev pub area_of : Kind → ℕ → ℕ → ℕ
@@ -62,17 +59,17 @@ view k [] store = []
 view k (s ∷ ss) store = cond s.held (upload_at k s store ∷ view k ss store) (view k ss store)
 
 -- rule 8.3: the first held slot with the number n
-abbrev pub slot_for : ℕ → List Slot → Found
-slot_for n [] = Nothing
-slot_for n (s ∷ ss) = cond (s.held && eqb s.number n) (At s) (slot_for n ss)
+abbrev pub slot_for : ℕ → List Slot → Option Slot
+slot_for n [] = None
+slot_for n (s ∷ ss) = cond (s.held && eqb s.number n) (Some s) (slot_for n ss)
 
 -- and the upload of that slot
-abbrev pub looked : Kind → List ℕ → Found → Option Whole
-looked k store (At s) = some (upload_at k s store)
-looked k store Nothing = none
+abbrev pub looked : Kind → List ℕ → Option Slot → past.Option Whole
+looked k store (Some s) = some (upload_at k s store)
+looked k store None = none
 
 -- what a store has under a number
-abbrev pub look_in : Kind → List Slot → List ℕ → ℕ → Option Whole
+abbrev pub look_in : Kind → List Slot → List ℕ → ℕ → past.Option Whole
 look_in k ss store n = looked k store (slot_for n ss)
 
 -- does the slot stay when an upload under n comes?
@@ -92,16 +89,19 @@ over old front store = front ++ (replicate (old - length front) 0 ++ drop (max o
 abbrev pub words_after : ℕ → List ℕ → List Whole → List ℕ → List ℕ
 words_after n ws us store = over (total (cards us)) (words_of (without n us) ++ ws) store
 
-abbrev pub is_fits : Room → Bool
-is_fits Fits = true
-is_fits NoSlot = false
-is_fits NoWords = false
+abbrev pub is_fits : Result ⊤ NoRoom → Bool
+is_fits (Ok u) = true
+is_fits (Err why) = false
 
--- the answer, the slots and every word of the store after an upload u that passed the checks of its command
-pub record Uploaded (k : Kind) (ss : List Slot) (store : List ℕ) (u : Whole) (r : Stored) (after : List ℕ) : Type 0 where
-  pub answer : r.room ≡ room (length store) (told k ss) u.number (length u.words)
-  pub slots : r.slots ≡ cond (is_fits r.room) (slots_after (card u) (told k ss)) ss
-  pub words : after ≡ cond (is_fits r.room) (words_after u.number u.words (view k ss store) store) store
+-- what is answered: if there is room, the slots afterwards
+abbrev pub answered : Result ⊤ NoRoom → List Slot → Result (List Slot) NoRoom
+answered (Ok u) after = Ok after
+answered (Err why) after = Err why
+
+-- the answer and every word of the store after an upload u that passed the checks of its command. If it has no room, the store is as it was
+pub record Uploaded (k : Kind) (ss : List Slot) (store : List ℕ) (u : Whole) (r : Result (List Slot) NoRoom) (after : List ℕ) : Type 0 where
+  pub answer : r ≡ answered (room (length store) (told k ss) u.number (length u.words)) (slots_after (card u) (told k ss))
+  pub words : after ≡ cond (is_fits (room (length store) (told k ss) u.number (length u.words))) (words_after u.number u.words (view k ss store) store) store
 
 -- ---- well formed
 -- none of the slots, up to the first unused one, has the number n

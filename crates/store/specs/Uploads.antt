@@ -1,9 +1,9 @@
 -- The stores over plain lists: what is held, in the order of the areas, and what a whole history of accepted uploads leaves.
 -- There are no slots and no places here, and both kinds are alike. Assumes nothing.
-use Rattle.std.specs.Prelude.{ℕ, ◌+◌, Bool, true, false, cond, not, ◌&&◌, List, [], ◌∷◌, ◌++◌, map, length, eqb, leb, ltb}
+use Rattle.std.specs.Prelude.{ℕ, ◌+◌, Bool, true, false, cond, not, ◌&&◌, List, [], ◌∷◌, ◌++◌, map, length, eqb, leb, ltb, Result, Ok, Err, ⊤}
 use Rattle.std.proofs.Math.Option.{Option, none, some}
-use Rattle.store.specs.declared.Room.{Room}
-use Rattle.store.specs.declared.Room.TheVariants.{Fits, NoSlot, NoWords}
+use Rattle.store.specs.declared.NoRoom.{NoRoom}
+use Rattle.store.specs.declared.NoRoom.TheVariants.{NoSlot, NoWords}
 
 -- an upload of either kind: its number, its sides (a model's count, and 0), and its words
 pub record Upload (W : Type 0) : Type 0 where
@@ -80,6 +80,6 @@ abbrev pub counted : ℕ → List Card → ℕ
 counted n cs = total (without n cs)
 
 -- rule 8.5: is there a slot, and are there words enough?
-abbrev pub room : ℕ → List Card → ℕ → ℕ → Room
+abbrev pub room : ℕ → List Card → ℕ → ℕ → Result ⊤ NoRoom
 room size cs n new =
-    cond (not (holds n cs) && leb slot_count (length cs)) NoSlot (cond (ltb size (counted n cs + new)) NoWords Fits)
+    cond (not (holds n cs) && leb slot_count (length cs)) (Err NoSlot) (cond (ltb size (counted n cs + new)) (Err NoWords) (Ok _))

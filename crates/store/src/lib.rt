@@ -9,12 +9,14 @@ pub mod words;
 
 ghost use Rattle.std.specs.Prelude.{◌≡◌, true, ◌≤◌, length};
 ghost use Rattle.store.specs.Uploads.{most_words};
-ghost use Rattle.store.specs.Slots.{area_of, sides_ok, no_slot, slots_ok, is_fits, Uploaded, whole_of};
+ghost use Rattle.store.specs.Slots.{area_of, sides_ok, no_slot, slots_ok, Uploaded, whole_of};
+
+use slots::Shelf;
 
 pub const SLOTS: usize = 64;
 
 // What a store holds.
-#[derive(Clone, Copy)]
+#[derive(Clone, Copy, Debug, PartialEq, Eq)]
 pub enum Kind {
     Texture,
     Model,
@@ -22,7 +24,7 @@ pub enum Kind {
 
 // One slot of a store. A model's count is in `width`, and its `height` is 0. An unused slot is
 // all zero.
-#[derive(Clone, Copy)]
+#[derive(Clone, Copy, Debug, PartialEq, Eq)]
 pub struct Slot {
     pub held: bool,
     pub number: u32,
@@ -47,40 +49,16 @@ impl Slot {
     }
 }
 
-// What is held under a number.
-#[derive(Clone, Copy)]
-pub enum Found {
-    At(Slot),
-    Nothing,
-}
-
-// Whether an upload has room, and if not, what is missing.
-#[derive(Clone, Copy)]
-pub enum Room {
-    Fits,
+// What is missing for an upload that has no room.
+#[derive(Clone, Copy, Debug, PartialEq, Eq)]
+pub enum NoRoom {
     NoSlot,
     NoWords,
 }
 
-// What an upload answers, and the slots afterwards.
-#[derive(Clone, Copy)]
-pub struct Stored {
-    pub room: Room,
-    pub slots: [Slot; SLOTS],
-}
-
-fn fits(room: Room) -> bool
-    ensures { result ≡ is_fits room }
-{
-    match room {
-        Room::Fits => true,
-        Room::NoSlot => false,
-        Room::NoWords => false,
-    }
-}
-
-// An upload that passed the checks of its command. If it has no room, nothing changes; else the old
-// upload of its number goes, later ones close up, and it is the last.
+// An upload that passed the checks of its command. If it has no room, the store is as it was, and so
+// are the slots; else the old upload of its number goes, later ones close up, and it is the last. The
+// answer is the slots afterwards.
 pub fn upload(
     kind: Kind,
     slots: [Slot; SLOTS],
@@ -89,18 +67,15 @@ pub fn upload(
     width: u32,
     height: u32,
     words: &[u32],
-) -> Stored
+) -> Result<[Slot; SLOTS], NoRoom>
     requires slots_value { slots_ok kind (length store.old) 0 slots ≡ true }
     requires store_len_bound { length store.old ≤ most_words }
     requires height_value { sides_ok kind width height ≡ true }
     requires words_len { length words.now ≡ area_of kind width height }
     ensures { Uploaded kind slots store.old (whole_of number width height words.now) result store.new }
 {
-    let room = slots::room_for(kind, slots, store.len(), number, words.len());
-    if !fits(room) {
-        return Stored { room, slots };
-    }
-    words::put(kind, slots, store, number, words);
-    let after = slots::slots_after(kind, slots, number, width, height);
-    Stored { room, slots: after }
+    let shelf = Shelf { kind, slots };
+    shelf.room_for(store.len(), number, words.len())?;
+    words::put(shelf, store, number, words);
+    Ok(shelf.slots_after(number, width, height))
 }

@@ -3,23 +3,18 @@ ghost use Rattle.std.specs.Prelude.{◌≡◌, ◌+◌, ◌≤◌, ◌<◌, leng
 ghost use Rattle.store.specs.Uploads.{without, total, most_words, slot_count, room};
 ghost use Rattle.store.specs.Slots.{area_of, told, slot_for, slots_of, slots_after, card_of, stays};
 
-use crate::{Found, Kind, Room, SLOTS, Slot};
+use crate::{Kind, NoRoom, SLOTS, Slot};
 
 // The held slot with this number.
-pub fn find(slots: [Slot; SLOTS], number: u32) -> Found
+pub fn find(slots: [Slot; SLOTS], number: u32) -> Option<Slot>
     ensures { result ≡ slot_for number slots }
 {
-    let mut i = 0;
-    while i < SLOTS {
-        let s = slots[i];
-        if s.held {
-            if s.number == number {
-                return Found::At(s);
-            }
+    for s in slots {
+        if s.held && s.number == number {
+            return Some(s);
         }
-        i += 1;
     }
-    Found::Nothing
+    None
 }
 
 // How many words an upload of these sides takes.
@@ -38,114 +33,91 @@ pub fn area(kind: Kind, width: u32, height: u32) -> usize
 fn keeps(s: Slot, number: u32) -> bool
     ensures { result ≡ stays number s }
 {
-    if s.held {
-        return s.number != number;
-    }
-    false
+    s.held && s.number != number
 }
 
 // How many slots the other numbers hold, and how many words they take.
-#[derive(Clone, Copy)]
+#[derive(Clone, Copy, Debug, PartialEq, Eq)]
 pub struct Usage {
     pub count: usize,
     pub total: usize,
 }
 
-pub fn used_by_others(kind: Kind, slots: [Slot; SLOTS], number: u32) -> Usage
-    requires { total (told kind slots) ≤ most_words }
-    ensures { (result.count ≡ length (without number (told kind slots))) × (result.total ≡ total (without number (told kind slots))) }
-{
-    let mut i = 0;
-    let mut count = 0;
-    let mut total = 0;
-    while i < SLOTS {
-        let s = slots[i];
-        i += 1;
-        if keeps(s, number) {
-            count += 1;
-            total += area(kind, s.width, s.height);
-        }
-    }
-    Usage { count, total }
-}
-
-// Is there room for so many words under this number, in a store of `size` words? An old upload under
-// the number would leave both its slot and its words, so only the other numbers count.
-pub fn room_for(kind: Kind, slots: [Slot; SLOTS], size: usize, number: u32, words: usize) -> Room
-    requires slots_bound { total (told kind slots) ≤ most_words }
-    requires words_le_most_words { words ≤ most_words }
-    ensures { result ≡ room size (told kind slots) number words }
-{
-    let used = used_by_others(kind, slots, number);
-    if SLOTS <= used.count {
-        return Room::NoSlot;
-    }
-    if size < used.total + words {
-        return Room::NoWords;
-    }
-    Room::Fits
-}
-
 // The uploads under other numbers, closed up.
 #[derive(Clone, Copy)]
-pub struct Left {
-    pub slots: [Slot; SLOTS],
-    pub count: usize,
-    pub total: usize,
+struct Left {
+    slots: [Slot; SLOTS],
+    usage: Usage,
 }
 
-fn others(kind: Kind, slots: [Slot; SLOTS], number: u32) -> Left
-    requires { total (told kind slots) ≤ most_words }
-    ensures slots_value { result.slots ≡ slots_of (without number (told kind slots)) }
-    ensures count_value { (result.count ≡ length (without number (told kind slots))) × (result.total ≡ total (without number (told kind slots))) }
-{
-    let mut out = [Slot::UNUSED; SLOTS];
-    let mut i = 0;
-    let mut count = 0;
-    let mut total = 0;
-    while i < SLOTS {
-        let s = slots[i];
-        i += 1;
-        if keeps(s, number) {
-            out[count] = Slot {
-                held: true,
-                number: s.number,
-                width: s.width,
-                height: s.height,
-                start: total as u32,
-            };
-            count += 1;
-            total += area(kind, s.width, s.height);
+// The slots of one kind. A store of the greatest size has room for their areas.
+#[derive(Clone, Copy)]
+pub struct Shelf {
+    pub kind: Kind,
+    pub slots: [Slot; SLOTS],
+    ghost in_range: { total (told kind slots) ≤ most_words },
+}
+
+impl Shelf {
+    fn others(self, number: u32) -> Left
+        ensures slots_value { result.slots ≡ slots_of (without number (told self.kind self.slots)) }
+        ensures count_value { (result.usage.count ≡ length (without number (told self.kind self.slots))) × (result.usage.total ≡ total (without number (told self.kind self.slots))) }
+    {
+        let mut left = [Slot::UNUSED; SLOTS];
+        let mut count = 0;
+        let mut total = 0;
+        for s in self.slots {
+            if keeps(s, number) {
+                left[count] = Slot {
+                    start: total as u32,
+                    ..s
+                };
+                count += 1;
+                total += area(self.kind, s.width, s.height);
+            }
+        }
+        Left {
+            slots: left,
+            usage: Usage { count, total },
         }
     }
-    Left {
-        slots: out,
-        count,
-        total,
-    }
-}
 
-// The slots after an upload that has room.
-pub fn slots_after(
-    kind: Kind,
-    slots: [Slot; SLOTS],
-    number: u32,
-    width: u32,
-    height: u32,
-) -> [Slot; SLOTS]
-    requires slots_bound { total (told kind slots) ≤ most_words }
-    requires slots_len_bound { length (without number (told kind slots)) < slot_count }
-    ensures { result ≡ slots_after (card_of kind number width height) (told kind slots) }
-{
-    let left = others(kind, slots, number);
-    let i = left.count;
-    let mut out = left.slots;
-    out[i] = Slot {
-        held: true,
-        number,
-        width,
-        height,
-        start: left.total as u32,
-    };
-    out
+    pub fn used_by_others(self, number: u32) -> Usage
+        ensures { (result.count ≡ length (without number (told self.kind self.slots))) × (result.total ≡ total (without number (told self.kind self.slots))) }
+    {
+        self.others(number).usage
+    }
+
+    // Is there room for so many words under this number, in a store of `size` words? An old upload
+    // under the number would leave both its slot and its words, so only the other numbers count.
+    pub fn room_for(self, size: usize, number: u32, words: usize) -> Result<(), NoRoom>
+        requires { words ≤ most_words }
+        ensures { result ≡ room size (told self.kind self.slots) number words }
+    {
+        let used = self.used_by_others(number);
+        if SLOTS <= used.count {
+            return Err(NoRoom::NoSlot);
+        }
+        if size < used.total + words {
+            return Err(NoRoom::NoWords);
+        }
+        Ok(())
+    }
+
+    // The slots after an upload that has room.
+    pub fn slots_after(self, number: u32, width: u32, height: u32) -> [Slot; SLOTS]
+        requires { length (without number (told self.kind self.slots)) < slot_count }
+        ensures { result ≡ slots_after (card_of self.kind number width height) (told self.kind self.slots) }
+    {
+        let left = self.others(number);
+        let mut out = left.slots;
+        out[left.usage.count] = Slot {
+            held: true,
+            number,
+            width,
+            height,
+            start: left.usage.total as u32,
+        };
+        out
+    }
 }

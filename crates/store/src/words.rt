@@ -4,11 +4,10 @@
 // Moves are counted: only `move_word` reads a word of the store and writes it elsewhere.
 ghost use Rattle.std.specs.Prelude.{◌≡◌, true, ◌+◌, ◌-◌, ◌≤◌, ◌<◌, ◌++◌, length, get_or, set, take, drop, replicate};
 ghost use Rattle.std.proofs.Math.Seq.{paste};
-ghost use Rattle.store.specs.Uploads.{without, total, behind, most_words};
+ghost use Rattle.store.specs.Uploads.{without, total, behind};
 ghost use Rattle.store.specs.Slots.{told, view, over, words_after, slots_ok};
 
-use crate::slots::{area, find, used_by_others};
-use crate::{Found, Kind, SLOTS, Slot};
+use crate::slots::{Shelf, area, find};
 
 // One word is moved, and counted: the answer is how many have been moved so far.
 fn move_word(store: &mut [u32], to: usize, from: usize, moved: usize) -> usize
@@ -31,12 +30,9 @@ fn move_down(store: &mut [u32], to: usize, from: usize, end: usize) -> usize
     ensures store_after { store.new ≡ paste store.old to (drop from store.old) (end - from) }
     ensures value { result ≡ end - from }
 {
-    let n = end - from;
     let mut moved = 0;
-    let mut done = 0;
-    while done < n {
+    for done in 0..end - from {
         moved = move_word(store, to + done, from + done, moved);
-        done += 1;
     }
     moved
 }
@@ -46,11 +42,7 @@ pub fn write_at(store: &mut [u32], at: usize, words: &[u32])
     requires { at + length words.now ≤ length store.old }
     ensures { store.new ≡ paste store.old at words.now (length words.now) }
 {
-    let mut i = 0;
-    while i < words.len() {
-        store[at + i] = words[i];
-        i += 1;
-    }
+    store[at..at + words.len()].copy_from_slice(words);
 }
 
 // The n words from `at` on are zero afterwards; the rest stays.
@@ -58,11 +50,7 @@ fn clear(store: &mut [u32], at: usize, n: usize)
     requires { at + n ≤ length store.old }
     ensures { store.new ≡ paste store.old at (replicate n 0) n }
 {
-    let mut i = 0;
-    while i < n {
-        store[at + i] = 0;
-        i += 1;
-    }
+    store[at..at + n].fill(0);
 }
 
 // The words are there from `at` on afterwards, then zeros up to `old`; the rest stays.
@@ -81,21 +69,18 @@ fn put_last(store: &mut [u32], at: usize, words: &[u32], old: usize)
 // The words of an upload that has room: those of the old one under its number go, later ones close
 // up, and the new ones are the last. The answer is how many words were moved, those behind the old
 // one; `upload` has no use for it.
-pub fn put(kind: Kind, slots: [Slot; SLOTS], store: &mut [u32], number: u32, words: &[u32]) -> usize
-    requires slots_value { slots_ok kind (length store.old) 0 slots ≡ true }
-    requires store_len_bound { length store.old ≤ most_words }
-    requires words_in_bounds { total (without number (told kind slots)) + length words.now ≤ length store.old }
-    ensures store_after { store.new ≡ words_after number words.now (view kind slots store.old) store.old }
-    ensures value { result ≡ behind number (told kind slots) }
+pub fn put(shelf: Shelf, store: &mut [u32], number: u32, words: &[u32]) -> usize
+    requires slots_value { slots_ok shelf.kind (length store.old) 0 shelf.slots ≡ true }
+    requires words_in_bounds { total (without number (told shelf.kind shelf.slots)) + length words.now ≤ length store.old }
+    ensures store_after { store.new ≡ words_after number words.now (view shelf.kind shelf.slots store.old) store.old }
+    ensures value { result ≡ behind number (told shelf.kind shelf.slots) }
 {
-    let used = used_by_others(kind, slots, number);
-    let others = used.total;
-    let f = find(slots, number);
-    let Found::At(s) = f else {
+    let others = shelf.used_by_others(number).total;
+    let Some(s) = find(shelf.slots, number) else {
         put_last(store, others, words, others);
         return 0;
     };
-    let size = area(kind, s.width, s.height);
+    let size = area(shelf.kind, s.width, s.height);
     let end = others + size;
     let to = s.start as usize;
     let moved = move_down(store, to, to + size, end);

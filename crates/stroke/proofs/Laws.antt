@@ -10,8 +10,8 @@ use Rattle.laws.proofs.Cells.{length-map_at}
 use Rattle.clip.specs.declared.vertex.ClipVertex.{ClipVertex}
 use Rattle.clip.specs.Polygons.{clip_all, fan}
 use Rattle.clip.specs.Vertices.{full}
-use Rattle.face.specs.declared.Setup.{Setup}
-use Rattle.face.specs.declared.Setup.TheVariants.{Drawn, Nothing}
+use Rattle.std.specs.Prelude.{Option, Some, None}
+use Rattle.face.specs.declared.Face.{Face}
 use Rattle.raster.specs.declared.ink.Ink.{Ink}
 use Rattle.raster.specs.Raster.{depths_after, plane_after}
 use Rattle.raster.specs.Triangles.{transformed_depths, transformed_plane, textured_depths, textured_plane}
@@ -36,10 +36,10 @@ then : {a b c : Sheet} → SameLong a b → SameLong b c → SameLong a c
 then p q = record { of-plane = p.of-plane ∙ q.of-plane; of-depths = p.of-depths ∙ q.of-depths }
 
 -- what both rasterisers come to
-set_up_long : (texels : List ℕ) (ink : Ink) (setup : Setup) (s : Sheet) → SameLong (sheet (plane_after texels ink setup s.depths s.plane) (depths_after setup s.depths)) s
+set_up_long : (texels : List ℕ) (ink : Ink) (setup : Option Face) (s : Sheet) → SameLong (sheet (plane_after texels ink setup s.depths s.plane) (depths_after setup s.depths)) s
 unfolding plane_after depths_after
-set_up_long texels ink (Drawn f) s = record { of-plane = length-map_at _ s.plane; of-depths = length-map_at _ s.depths }
-set_up_long texels ink Nothing s = same s
+set_up_long texels ink (Some f) s = record { of-plane = length-map_at _ s.plane; of-depths = length-map_at _ s.depths }
+set_up_long texels ink None s = same s
 
 pub triangle-long : (brush : Brush) (texels : List ℕ) (tri : List ClipVertex) (s : Sheet) → SameLong (triangle_on brush texels tri s) s
 unfolding triangle_on transformed_depths transformed_plane textured_depths textured_plane

@@ -1,9 +1,8 @@
 -- A float triangle painted: clipped, cut into a fan, each triangle of it rasterised. The end of `draw_transformed_triangle_impl`, `draw_textured_triangle` and `draw_textured_lit_triangle`, the original. A stroke is complete: its corners are transformed, lit and checked, and a texture's words are in hand. Definitions only.
-use Rattle.std.specs.Prelude.{ℕ, List, [], ◌∷◌, Float}
+use Rattle.std.specs.Prelude.{ℕ, Some, None, List, [], ◌∷◌, Float}
 use Rattle.clip.specs.declared.vertex.ClipVertex.{ClipVertex}
 use Rattle.clip.specs.Polygons.{clip_all, fan}
 use Rattle.clip.specs.Vertices.{full}
-use Rattle.raster.specs.declared.Flat.TheVariants as flat
 use Rattle.raster.specs.Ink as ink
 use Rattle.raster.specs.Triangles.{transformed_depths, transformed_plane, textured_depths, textured_plane}
 use Rattle.stroke.specs.declared.Brush.{Brush}
@@ -19,8 +18,8 @@ sheet P D = record { plane = P; depths = D }
 
 -- one triangle of the fan: `rasterize_transformed_triangle`, or `rasterize_textured_triangle`
 unfoldable pub triangle_on : Brush → List ℕ → List ClipVertex → Sheet → Sheet
-triangle_on (Flat c) texels tri s = sheet (transformed_plane tri (flat.Some c) s.depths s.plane) (transformed_depths tri s.depths)
-triangle_on Blended texels tri s = sheet (transformed_plane tri flat.None s.depths s.plane) (transformed_depths tri s.depths)
+triangle_on (Flat c) texels tri s = sheet (transformed_plane tri (Some c) s.depths s.plane) (transformed_depths tri s.depths)
+triangle_on Blended texels tri s = sheet (transformed_plane tri None s.depths s.plane) (transformed_depths tri s.depths)
 triangle_on (Textured t) texels tri s =
     sheet (textured_plane tri t.width t.height texels t.mode t.color s.depths s.plane) (textured_depths tri s.depths)
 

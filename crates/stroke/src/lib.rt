@@ -13,7 +13,7 @@ use clip::vertex::ClipVertex;
 use raster::ink::Color;
 
 // How a texture is laid on: its sides, the mode of 18, 19 and 1B, and the flat colour of mode 1.
-#[derive(Clone, Copy)]
+#[derive(Clone, Copy, Debug, PartialEq)]
 pub struct Texture {
     pub width: u32,
     pub height: u32,
@@ -22,13 +22,14 @@ pub struct Texture {
 }
 
 // What a triangle is painted with. The words of a texture go beside it.
-#[derive(Clone, Copy)]
+#[derive(Clone, Copy, Debug, PartialEq)]
 pub enum Brush {
     Flat(Color),
     Blended,
     Textured(Texture),
 }
 
+#[tactic(auto, unfolding(crate::specs::Strokes::triangle_on))]
 fn paint_triangle(
     plane: &mut [u8],
     depth_f32: &mut [f32],
@@ -46,11 +47,9 @@ fn paint_triangle(
             plane,
             depth_f32,
             tri,
-            raster::Flat::Some(color),
+            Some(color),
         ),
-        Brush::Blended => {
-            raster::rasterize_transformed_triangle(plane, depth_f32, tri, raster::Flat::None)
-        }
+        Brush::Blended => { raster::rasterize_transformed_triangle(plane, depth_f32, tri, None) }
         Brush::Textured(t) => raster::rasterize_textured_triangle(
             plane, depth_f32, tri, t.width, t.height, texels, t.mode, t.color,
         ),
@@ -72,11 +71,9 @@ fn paint_fan(
     ensures { sheet plane.new depth_f32.new ≡ fan_on brush texels.now (fan (of polygon)) (sheet plane.old depth_f32.old) }
 {
     let first = polygon.vertices[0];
-    let mut i: usize = 1;
-    while i + 1 < polygon.count {
+    for i in 1..polygon.count.saturating_sub(1) {
         let tri = [first, polygon.vertices[i], polygon.vertices[i + 1]];
         paint_triangle(plane, depth_f32, tri, brush, texels);
-        i += 1;
     }
 }
 

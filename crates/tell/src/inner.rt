@@ -1,15 +1,15 @@
 // The cases whose number is inside a call, asked of the compiled function that gives it.
-use crate::say;
 use face::Corners;
-use raster::ink::{Ink, Sampler, Shade, Tone};
+use ieee::bits::{bits_of, float_of};
+use raster::ink::{Ink, Sampler, Tone};
 use std::io;
-use std::io::Stdout;
+use std::io::{Stdout, Write};
 
 // Case 9: a channel of 128 under a shade.
-pub fn shaded(out: Stdout, shade: u32) -> io::Result<()> {
-    let t = flat::tri::tri_of(&[0, 0, 10, 4, 0, 10, 0, 4, 10, 0x80_8080, shade]);
-    let c = t.color;
-    say::byte(out, c.r)
+pub fn shaded(shade: u32) -> u8 {
+    flat::tri::tri_of(&[0, 0, 10, 4, 0, 10, 0, 4, 10, 0x80_8080, shade])
+        .color
+        .r
 }
 
 fn corners(a: f32) -> Corners {
@@ -21,7 +21,7 @@ fn corners(a: f32) -> Corners {
 }
 
 // Case 11: the one texel of a 1 by 1 texture.
-pub fn texel(out: Stdout, word: u32) -> io::Result<()> {
+pub fn texel(out: &mut Stdout, word: u32) -> io::Result<()> {
     let zero = corners(0.0);
     let s = Sampler {
         width: 1,
@@ -30,17 +30,13 @@ pub fn texel(out: Stdout, word: u32) -> io::Result<()> {
         v: zero,
     };
     let ink = Ink::Textured(s, Tone::Plain);
-    let shade = raster::ink::shade_at(&[word], ink, corners(0.25), corners(1.0));
-    match shade {
-        Shade::Of(c) => say::colour(out, c),
-        Shade::Blank => say::text(out, b"none"),
+    match raster::ink::shade_at(&[word], ink, corners(0.25), corners(1.0)) {
+        Some(c) => crate::colour(out, c),
+        None => write!(out, "none"),
     }
 }
 
 // Case 13.
-pub fn root(out: Stdout, bits: u32) -> io::Result<()> {
-    say::bits(
-        out,
-        ieee::bits::bits_of(ieee::root::sqrt(ieee::bits::float_of(bits))),
-    )
+pub fn root(bits: u32) -> u32 {
+    bits_of(ieee::root::sqrt(float_of(bits)))
 }

@@ -2,178 +2,111 @@
 // about a pixel that was read, and of functions inside the machine.
 #![tactic(auto)]
 
+pub mod amount;
 mod inner;
-pub mod say;
 
-use screen::plane::{Read, Rgba};
+use amount::Amount;
+use screen::plane::{PIXELS, Rgba, VPU_WIDTH, WrongLength};
 use state::State;
 use std::io;
-use std::io::Stdout;
-use store::Slot;
+use std::io::{Stdout, Write};
 use trial::line::Op;
-use trial::{mark, same};
+use trial::memories::Fill;
 
-// What a call answered, whether it left the state as it was, and what a line can ask about the
-// state after it.
+// What a call answered, how much of state and memories it changed, and what it left: the state, and
+// as much of plane and depths as it was lent.
 #[derive(Clone, Copy)]
-pub struct Seen {
-    pub answer: u64,
-    pub same: bool,
-    pub opcode: u32,
-    pub wanted: u32,
-    pub status: u32,
-    pub slots: [Slot; 3],
-}
-
-pub fn seen_after(answer: u64, given: State, s: State) -> Seen {
-    let t = s.textures;
-    let a = t[0];
-    let b = t[1];
-    let c = t[2];
-    let notes = s.notes;
-    Seen {
-        answer,
-        same: same::state(given, s),
-        opcode: s.opcode,
-        wanted: s.wanted,
-        status: notes.status,
-        slots: [a, b, c],
-    }
-}
-
-fn framing(out: Stdout, opcode: u32, wanted: u32) -> io::Result<()> {
-    if opcode == 0 {
-        if wanted == 0 {
-            return say::text(out, b"next is a header");
-        }
-    }
-    say::text(out, b"wants ")?;
-    say::word(out, wanted)?;
-    say::text(out, b" words")
-}
-
-const ONE: u32 = 0x3f80_0000;
-
-const FAR: i32 = 2147483647;
-
-// How much was cleared. What is cleared becomes white.
-fn cleared(out: Stdout, plane: &[u8], depth: &[i32], depth_f32: &[f32]) -> io::Result<()> {
-    let none = mark::all(
-        mark::BYTE,
-        mark::INT,
-        mark::FLOAT_BITS,
-        plane,
-        depth,
-        depth_f32,
-    );
-    let all = mark::all(255, FAR, ONE, plane, depth, depth_f32);
-    say::amount(out, none, all)
-}
-
-fn colour_of(read: Read) -> Rgba {
-    match read {
-        Read::Colour(c) => c,
-        Read::WrongLength => Rgba {
-            r: 0,
-            g: 0,
-            b: 0,
-            a: 0,
-        },
-    }
-}
-
-fn wrong(read: Read) -> u64 {
-    match read {
-        Read::Colour(_) => 0,
-        Read::WrongLength => 1,
-    }
+pub struct Seen<'a> {
+    pub answer: u32,
+    pub changed: Amount,
+    pub state: State,
+    pub plane: &'a [u8],
+    pub depth: &'a [i32],
+    pub depth_f32: &'a [f32],
 }
 
 // A pixel that a flat triangle drew has alpha 255, one of a reset plane 0.
-fn drawn(read: Read) -> u64 {
-    let c = colour_of(read);
-    if c.a == 255 { 1 } else { 0 }
-}
-
-fn among(out: Stdout, drawn: u64) -> io::Result<()> {
-    if drawn == 1 {
-        return say::text(out, b"among them");
-    }
-    say::text(out, b"not")
-}
-
-fn depth_at(out: Stdout, depth: &[i32], x: u32, y: u32) -> io::Result<()> {
-    let i = (y as usize) * 320 + (x as usize);
-    if i < depth.len() {
-        return say::signed(out, depth[i]);
-    }
-    Ok(())
-}
-
-fn slot(out: Stdout, slots: [Slot; 3], i: usize) -> io::Result<()> {
-    if i < 3 {
-        let s = slots[i];
-        if s.held {
-            say::word(out, s.number)?;
-            say::text(out, b" at ")?;
-            return say::word(out, s.start);
-        }
-    }
-    Ok(())
-}
-
-fn answer(out: Stdout, answer: u64, changed: u32) -> io::Result<()> {
-    say::number(out, answer)?;
-    say::text(out, b", ")?;
-    say::amount(out, changed == 0, changed == 7)?;
-    say::text(out, b" changed")
-}
-
-fn pixel(out: Stdout, letter: u8, read: Read) -> io::Result<()> {
-    match letter {
-        b'P' => say::colour(out, colour_of(read)),
-        b'A' => among(out, drawn(read)),
-        _ => say::number(out, wrong(read)),
-    }
+fn is_drawn(read: Result<Rgba, WrongLength>) -> bool {
+    read.is_ok_and(|c| c.a == 255)
 }
 
 // How many pixels were drawn.
-fn count(plane: &[u8]) -> u64 {
-    let mut n: u64 = 0;
-    let mut i: usize = 0;
-    while i < 76800 {
-        n = std::num::wrapping_add_u64(n, drawn(screen::plane::pixel(plane, i % 320, i / 320)));
-        i += 1;
-    }
-    n
+fn count(plane: &[u8]) -> usize {
+    (0..PIXELS)
+        .filter(|i| is_drawn(screen::plane::pixel(plane, *i % VPU_WIDTH, *i / VPU_WIDTH)))
+        .count()
 }
 
-// What the operation asks. `read` is the pixel at its first two numbers.
-pub fn value(
-    out: Stdout,
-    op: Op,
-    s: Seen,
-    changed: u32,
-    read: Read,
-    plane: &[u8],
-    depth: &[i32],
-    depth_f32: &[f32],
-) -> io::Result<()> {
-    let letter = op.letter;
-    match letter {
-        b'S' => say::word(out, s.status),
-        b'F' => framing(out, s.opcode, s.wanted),
-        b'C' => cleared(out, plane, depth, depth_f32),
-        b'N' => say::number(out, count(plane)),
-        b'A' | b'P' | b'Q' => pixel(out, letter, read),
-        b'Z' => depth_at(out, depth, op.a, op.b),
-        b'H' => {
-            let slots = s.slots;
-            slot(out, slots, op.a as usize)
+fn colour(out: &mut Stdout, c: Rgba) -> io::Result<()> {
+    let Rgba { r, g, b, a } = c;
+    write!(out, "{r},{g},{b},{a}")
+}
+
+fn framing(out: &mut Stdout, state: &State) -> io::Result<()> {
+    let wanted = state.wanted;
+    if state.opcode == 0 && wanted == 0 {
+        write!(out, "next is a header")
+    } else {
+        write!(out, "wants {wanted} words")
+    }
+}
+
+// How much was cleared. What is cleared becomes white.
+fn cleared(seen: &Seen) -> Amount {
+    Amount::of(
+        Fill::MARKS.fills(seen.plane, seen.depth, seen.depth_f32),
+        Fill::WHITE.fills(seen.plane, seen.depth, seen.depth_f32),
+    )
+}
+
+fn depth_at(out: &mut Stdout, depth: &[i32], x: u32, y: u32) -> io::Result<()> {
+    match depth.get(y as usize * VPU_WIDTH + x as usize) {
+        Some(z) => write!(out, "{z}"),
+        None => Ok(()),
+    }
+}
+
+// Of the textures' slots the first three can be asked for.
+fn slot(out: &mut Stdout, state: &State, i: u32) -> io::Result<()> {
+    match state.textures[..3].get(i as usize) {
+        Some(s) if s.held => {
+            let number = s.number;
+            let start = s.start;
+            write!(out, "{number} at {start}")
         }
-        b'X' => inner::shaded(out, op.a),
-        b'T' => inner::texel(out, op.a),
-        b'R' => inner::root(out, op.a),
-        _ => answer(out, s.answer, changed),
+        _ => Ok(()),
+    }
+}
+
+pub fn answer(out: &mut Stdout, seen: &Seen) -> io::Result<()> {
+    let answer = seen.answer;
+    let changed = seen.changed;
+    write!(out, "{answer}, {changed} changed")
+}
+
+// What the operation asks, by the letters of the table's head. `read` is the pixel at its first two
+// numbers.
+// Stays: a letter is text, looked at here alone; an enum between would name each of them twice.
+pub fn value(
+    out: &mut Stdout,
+    op: Op,
+    seen: &Seen,
+    read: Result<Rgba, WrongLength>,
+) -> io::Result<()> {
+    let [a, b, ..] = op.numbers;
+    match op.letter {
+        b'S' => write!(out, "{}", seen.state.notes.status),
+        b'F' => framing(out, &seen.state),
+        b'C' => write!(out, "{}", cleared(seen)),
+        b'N' => write!(out, "{}", count(seen.plane)),
+        b'A' => write!(out, "{}", if is_drawn(read) { "among them" } else { "not" }),
+        b'P' => colour(out, read.unwrap_or(Rgba::CLEAR)),
+        b'Q' => write!(out, "{}", u8::from(read.is_err())),
+        b'Z' => depth_at(out, seen.depth, a, b),
+        b'H' => slot(out, &seen.state, a),
+        b'X' => write!(out, "{}", inner::shaded(a)),
+        b'T' => inner::texel(out, a),
+        b'R' => write!(out, "{:08x}", inner::root(a)),
+        _ => answer(out, seen),
     }
 }

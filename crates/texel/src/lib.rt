@@ -8,6 +8,7 @@ ghost use Rattle.texel.specs.Texel.{half_of, nibbles_of, texel_at};
 use screen::plane::Rgba;
 
 // The sixteen bits of texel n, counted row by row.
+#[tactic(auto, unfolding(crate::specs::Texel::half_of))]
 pub fn half(texels: &[u32], n: usize) -> u32
     requires { n / 2 < length texels.now }
     ensures { (result ≡ half_of texels.now n) × (result < 65536) }
@@ -19,6 +20,7 @@ pub fn half(texels: &[u32], n: usize) -> u32
     texels[k] % 65536
 }
 
+#[tactic(auto, unfolding(crate::specs::Texel::nibbles_of))]
 fn nibbles(texel: u32) -> Rgba
     requires { texel < 65536 }
     ensures { result ≡ nibbles_of texel }
@@ -32,6 +34,7 @@ fn nibbles(texel: u32) -> Rgba
 }
 
 // Its colour.
+#[tactic(auto, unfolding(crate::specs::Texel::texel_at))]
 pub fn texel_at(texels: &[u32], n: usize) -> Rgba
     requires { n / 2 < length texels.now }
     ensures { result ≡ texel_at texels.now n }

@@ -1,8 +1,8 @@
 // What `cases` has before its calls and after them: the lines of its table and what their operations
-// ask for, marks in memories, and whether two states are the same.
+// ask for, the memories and their marks, and whether two states are the same.
 #![tactic(auto)]
 
-pub mod job;
 pub mod line;
-pub mod mark;
+pub mod memories;
+pub mod plan;
 pub mod same;

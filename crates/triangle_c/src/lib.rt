@@ -8,9 +8,8 @@ ghost use Rattle.screen.specs.Draw.{pixels};
 ghost use Rattle.raster.specs.Ink.{Texture};
 
 use clip::vertex::ClipVertex;
-use raster::Flat;
 use raster::ink::Color;
-use verdict::Verdict;
+use vertex_c::record::vertex;
 
 // 0 if the triangle is drawn, else one more than the index of the word that is refused.
 pub fn triangle_flat(plane: &mut [u8], depth: &mut [i32], p: &[u32]) -> u32
@@ -18,20 +17,16 @@ pub fn triangle_flat(plane: &mut [u8], depth: &mut [i32], p: &[u32]) -> u32
     requires depth_len { length depth.old ≡ pixels }
     requires p_len { length p.now ≡ 11 }
 {
-    let verdict = flat::draw_flat_triangle(plane, depth, p);
-    match verdict {
-        Verdict::Done => 0,
-        Verdict::Refused { reason: _, index } => std::num::wrapping_add_u32(index, 1),
+    match flat::draw_flat_triangle(plane, depth, p) {
+        Ok(()) => 0,
+        Err(refused) => refused.index.wrapping_add(1),
     }
 }
 
 fn corners(x: &[f32]) -> [ClipVertex; 3]
     requires { 48 ≤ length x.now }
 {
-    let a = vertex_c::record::vertex(x, 0);
-    let b = vertex_c::record::vertex(x, 16);
-    let c = vertex_c::record::vertex(x, 32);
-    [a, b, c]
+    [vertex(x, 0), vertex(x, 16), vertex(x, 32)]
 }
 
 fn color(x: &[f32]) -> Color
@@ -45,22 +40,18 @@ fn color(x: &[f32]) -> Color
     }
 }
 
-fn flat_of(x: &[f32]) -> Flat {
-    if x.len() < 4 {
-        return Flat::None;
-    }
-    Flat::Some(color(x))
-}
-
 // Three vertices of 16. `flat` has four floats, or none if the colours of the corners count.
 pub fn triangle_transformed(plane: &mut [u8], depth_f32: &mut [f32], x: &[f32], flat: &[f32])
     requires plane_len { length plane.old ≡ plane_bytes }
     requires depth_f32_len { length depth_f32.old ≡ pixels }
     requires in_bounds { 48 ≤ length x.now }
 {
-    let tri = corners(x);
-    let color = flat_of(flat);
-    raster::rasterize_transformed_triangle(plane, depth_f32, tri, color);
+    let color = if flat.len() < 4 {
+        None
+    } else {
+        Some(color(flat))
+    };
+    raster::rasterize_transformed_triangle(plane, depth_f32, corners(x), color);
 }
 
 // Three vertices of 16, and the texels as received, two to a word.
@@ -80,11 +71,10 @@ pub fn triangle_textured(
     requires texture { Texture width height (length texels.now) }
     requires in_bounds_2 { 4 ≤ length flat.now }
 {
-    let tri = corners(x);
     raster::rasterize_textured_triangle(
         plane,
         depth_f32,
-        tri,
+        corners(x),
         width,
         height,
         texels,

@@ -1,13 +1,11 @@
 -- The normal matrix. The original's `inverse_transpose_3x3` and `apply_normal_matrix`, with the source's letters. Definitions only.
-use Rattle.std.specs.Prelude.{cond, not, ◌&&◌, List, [], ◌∷◌, Float}
+use Rattle.std.specs.Prelude.{cond, not, ◌&&◌, List, [], ◌∷◌, Option, Some, None, Float}
 use Rattle.std.specs.Float.Ieee.Scale.{finite}
 use Rattle.ieee.specs.Units.{one32}
 use Rattle.ieee.specs.Range.{tiny_of}
 use Rattle.vector.specs.Three.{at, ◌⊕◌, ◌⊖◌, ◌·◌, ◌⊘◌, dot_of}
 use Rattle.vector.specs.declared.matrix.Matrix.{Matrix}
 use Rattle.vector.specs.declared.normal.Matrix3.{Matrix3}
-use Rattle.vector.specs.declared.normal.Inverse.{Inverse}
-use Rattle.vector.specs.declared.normal.Inverse.TheVariants.{Of, Singular}
 
 -- the three by three corner of a matrix
 abbrev pub corner_of : Matrix → Matrix3
@@ -37,11 +35,11 @@ cofactors_of m inv = record {
 }
 
 -- rule 5.3: none if the determinant is not finite or at most 2^-23 in size
-unfoldable pub inverse_by : Float → Matrix3 → Inverse
-inverse_by det m = cond (finite det && not (tiny_of det)) (Of (cofactors_of m (one32 ⊘ det))) Singular
+unfoldable pub inverse_by : Float → Matrix3 → Option Matrix3
+inverse_by det m = cond (finite det && not (tiny_of det)) (Some (cofactors_of m (one32 ⊘ det))) None
 
 -- `inverse_transpose_3x3`
-abbrev pub inverse_transpose_of : Matrix → Inverse
+abbrev pub inverse_transpose_of : Matrix → Option Matrix3
 inverse_transpose_of matrix = inverse_by (det_of (corner_of matrix)) (corner_of matrix)
 
 -- `apply_normal_matrix`: each row times the normal

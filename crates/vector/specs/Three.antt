@@ -28,6 +28,13 @@ at l i = get_or l i nan
 abbrev pub dot_of : List Float → List Float → Float
 dot_of a b = at a 0 · at b 0 ⊕ at a 1 · at b 1 ⊕ at a 2 · at b 2
 
+-- in each place by itself
+abbrev pub plus_of : List Float → List Float → List Float
+plus_of a b = at a 0 ⊕ at b 0 ∷ at a 1 ⊕ at b 1 ∷ at a 2 ⊕ at b 2 ∷ []
+
+abbrev pub minus_of : List Float → List Float → List Float
+minus_of a b = at a 0 ⊖ at b 0 ∷ at a 1 ⊖ at b 1 ∷ at a 2 ⊖ at b 2 ∷ []
+
 -- 2 ^ -23, Rust's `f32::EPSILON`
 abbrev pub epsilon : Float
 epsilon = of_bits binary32 0x3400_0000

@@ -4,9 +4,10 @@ ghost use Rattle.std.specs.Prelude.{◌≡◌};
 ghost use Rattle.vector.specs.Normals.{corner_of, minor_of, det_of, cofactors_of, inverse_transpose_of, apply_of};
 
 use crate::matrix::Matrix;
+use crate::three::dot;
 
 // Row by row, with the original's letters.
-#[derive(Clone, Copy)]
+#[derive(Clone, Copy, Debug, PartialEq)]
 pub struct Matrix3 {
     pub a: f32,
     pub b: f32,
@@ -19,27 +20,20 @@ pub struct Matrix3 {
     pub i: f32,
 }
 
-// An inverse, or none: the determinant is not finite, or at most 2^-23 in size.
-#[derive(Clone, Copy)]
-pub enum Inverse {
-    Of(Matrix3),
-    Singular,
-}
-
 fn corner(matrix: Matrix) -> Matrix3
     ensures { result ≡ corner_of matrix }
 {
-    let m = matrix.cells;
+    let [a, b, c, _, d, e, f, _, g, h, i, ..] = matrix.cells;
     Matrix3 {
-        a: m[0],
-        b: m[1],
-        c: m[2],
-        d: m[4],
-        e: m[5],
-        f: m[6],
-        g: m[8],
-        h: m[9],
-        i: m[10],
+        a,
+        b,
+        c,
+        d,
+        e,
+        f,
+        g,
+        h,
+        i,
     }
 }
 
@@ -74,26 +68,25 @@ fn cofactors(m: Matrix3, inv_det: f32) -> Matrix3
     }
 }
 
-pub fn inverse_transpose_3x3(matrix: Matrix) -> Inverse
+// None if the determinant is not finite, or at most 2^-23 in size.
+#[tactic(auto, unfolding(crate::specs::Normals::inverse_by))]
+pub fn inverse_transpose_3x3(matrix: Matrix) -> Option<Matrix3>
     ensures { result ≡ inverse_transpose_of matrix }
 {
     let m = corner(matrix);
     let det = determinant(m);
-    if ieee::bits::is_finite(det) {
-        if ieee::range::tiny(det) {
-            return Inverse::Singular;
-        }
-        return Inverse::Of(cofactors(m, 1.0 / det));
+    if !ieee::bits::is_finite(det) || ieee::range::tiny(det) {
+        return None;
     }
-    Inverse::Singular
+    Some(cofactors(m, 1.0 / det))
 }
 
 pub fn apply_normal_matrix(m: Matrix3, normal: [f32; 3]) -> [f32; 3]
     ensures { result ≡ apply_of m normal }
 {
     [
-        crate::three::dot([m.a, m.b, m.c], normal),
-        crate::three::dot([m.d, m.e, m.f], normal),
-        crate::three::dot([m.g, m.h, m.i], normal),
+        dot([m.a, m.b, m.c], normal),
+        dot([m.d, m.e, m.f], normal),
+        dot([m.g, m.h, m.i], normal),
     ]
 }

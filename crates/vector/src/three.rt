@@ -1,6 +1,6 @@
 // Vectors of three.
 ghost use Rattle.std.specs.Prelude.{◌≡◌};
-ghost use Rattle.vector.specs.Three.{dot_of, scaled_of, normal_of, power16};
+ghost use Rattle.vector.specs.Three.{dot_of, plus_of, minus_of, scaled_of, normal_of, power16};
 
 pub fn dot(a: [f32; 3], b: [f32; 3]) -> f32
     ensures { result ≡ dot_of a b }
@@ -8,18 +8,31 @@ pub fn dot(a: [f32; 3], b: [f32; 3]) -> f32
     a[0] * b[0] + a[1] * b[1] + a[2] * b[2]
 }
 
-// The vector brought to length 1, with its length handed in. The literal is f32::EPSILON, 2^-23.
+pub fn plus(a: [f32; 3], b: [f32; 3]) -> [f32; 3]
+    ensures { result ≡ plus_of a b }
+{
+    [a[0] + b[0], a[1] + b[1], a[2] + b[2]]
+}
+
+pub fn minus(a: [f32; 3], b: [f32; 3]) -> [f32; 3]
+    ensures { result ≡ minus_of a b }
+{
+    [a[0] - b[0], a[1] - b[1], a[2] - b[2]]
+}
+
+// The vector brought to length 1, with its length handed in.
+#[tactic(auto, unfolding(crate::specs::Three::scaled_of))]
 pub fn scaled(vector: [f32; 3], length: f32) -> [f32; 3]
     ensures { result ≡ scaled_of vector length }
 {
-    if ieee::bits::is_finite(length) {
-        if length > 0.00000011920928955078125 {
-            return [vector[0] / length, vector[1] / length, vector[2] / length];
-        }
+    if ieee::bits::is_finite(length) && length > f32::EPSILON {
+        let [x, y, z] = vector;
+        return [x / length, y / length, z / length];
     }
     [0.0, 0.0, 1.0]
 }
 
+#[tactic(auto, unfolding(crate::specs::Three::normal_of))]
 pub fn normalize(vector: [f32; 3]) -> [f32; 3]
     ensures { result ≡ normal_of vector }
 {
@@ -27,6 +40,7 @@ pub fn normalize(vector: [f32; 3]) -> [f32; 3]
 }
 
 // Four squarings.
+#[tactic(auto, unfolding(crate::specs::Three::power16))]
 pub fn powi16(x: f32) -> f32
     ensures { result ≡ power16 x }
 {

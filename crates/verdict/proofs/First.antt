@@ -8,9 +8,8 @@ use lib.Dec.{eqb, leb}
 use Rattle.verdict.specs.declared.Reason.{Reason}
 use Rattle.verdict.specs.declared.Reason.TheVariants.{ZeroOpcode, CountTooLarge, UnknownOpcode, WrongLength, OutOfRange, NotFinite, NotHeld, NotInvertible, NoSlot, NoWords}
 use Rattle.verdict.specs.declared.Refusal.{Refusal}
-use Rattle.verdict.specs.declared.Verdict.{Verdict}
-use Rattle.verdict.specs.declared.Verdict.TheVariants.{Done, Refused}
-use Rattle.verdict.specs.Verdict.{number_of, refusal, first_after, refusal_ok, and_then}
+use Rattle.std.specs.Prelude.{Ok, Err}
+use Rattle.verdict.specs.Verdict.{Verdict, number_of, refusal, refused, first_after, refusal_ok, and_then}
 
 pub number_some : (r : Reason) → 0 < number_of r
 number_some ZeroOpcode = omega arith
@@ -37,12 +36,12 @@ number-low NoSlot = omega arith
 number-low NoWords = omega arith
 
 -- ---- which one is kept
-pub first-new : (f : Refusal) (op : ℕ) (r : Reason) (i : ℕ) → f.reason ≡ 0 → first_after f op (Refused r i) ≡ refusal (number_of r) op i
+pub first-new : (f : Refusal) (op : ℕ) (r : Reason) (i : ℕ) → f.reason ≡ 0 → first_after f op (refused r i) ≡ refusal (number_of r) op i
 first-new f op r i e = rw (eq-eqb f.reason 0 e)
 
 pub first-stays : (f : Refusal) (op : ℕ) (v : Verdict) → 0 < f.reason → first_after f op v ≡ f
-first-stays f op Done h = refl
-first-stays f op (Refused r i) h = rw (ne_eqb f.reason 0 (λ e. omega arith))
+first-stays f op (Ok u) h = refl
+first-stays f op (Err e) h = rw (ne_eqb f.reason 0 (λ e. omega arith))
 
 -- ---- well formed
 module _ (f : Refusal) where
@@ -77,17 +76,17 @@ module _ (f : Refusal) where
 
 -- ---- what is kept is well formed, if the index of the verdict is low
 abbrev pub Low : ℕ → Verdict → Type 0
-Low n Done = Unit {0}
-Low n (Refused r i) = i ≤ n
+Low n (Ok u) = Unit {0}
+Low n (Err e) = e.index ≤ n
 
 pub low_then : (n : ℕ) (a b : Verdict) → Low n a → Low n b → Low n (and_then a b)
-low_then n Done b p q = q
-low_then n (Refused r i) b p q = p
+low_then n (Ok u) b p q = q
+low_then n (Err e) b p q = p
 
 pub after-ok : (f : Refusal) (op : ℕ) (v : Verdict) → refusal_ok f ≡ true → Low 28 v → refusal_ok (first_after f op v) ≡ true
-after-ok f op Done e l = e
-after-ok f op (Refused r i) e l = go (eqb f.reason 0)
+after-ok f op (Ok u) e l = e
+after-ok f op (Err x) e l = go (eqb f.reason 0)
   where
-    go : (b : Bool) → refusal_ok (cond b (refusal (number_of r) op i) f) ≡ true
-    go true = some_ok (refusal (number_of r) op i) (number_some r) (number-low r) l
+    go : (b : Bool) → refusal_ok (cond b (refusal (number_of x.reason) op x.index) f) ≡ true
+    go true = some_ok (refusal (number_of x.reason) op x.index) (number_some x.reason) (number-low x.reason) l
     go false = e

@@ -5,11 +5,10 @@
 ghost use Rattle.std.specs.Prelude.{◌≡◌};
 ghost use Rattle.std.specs.Int.Bits.{bit_or};
 ghost use Rattle.verdict.specs.declared.Reason.TheVariants as reason;
-ghost use Rattle.verdict.specs.declared.Verdict.TheVariants as verdict;
-ghost use Rattle.verdict.specs.Verdict.{number_of, bit_for, bits_of, first_after, noted_of, refusal_ok, and_then};
+ghost use Rattle.verdict.specs.Verdict.{number_of, bit_for, bits_of, first_after, noted_of, refusal_ok, because};
 
 // In the order of their numbers, 1 to 10 (rule 3.5 of docs/RULES.md).
-#[derive(Clone, Copy)]
+#[derive(Clone, Copy, Debug, PartialEq, Eq)]
 pub enum Reason {
     ZeroOpcode,
     CountTooLarge,
@@ -23,16 +22,41 @@ pub enum Reason {
     NoWords,
 }
 
-// The index is 0 if a reason has no word to point at.
-#[derive(Clone, Copy)]
-pub enum Verdict {
-    Done,
-    Refused { reason: Reason, index: u32 },
+// The number of a reason, rule 3.5.
+impl From<Reason> for u32 {
+    ghost from_gives = { λ reason number. number ≡ number_of reason };
+
+    fn from(reason: Reason) -> u32 {
+        match reason {
+            Reason::ZeroOpcode => 1,
+            Reason::CountTooLarge => 2,
+            Reason::UnknownOpcode => 3,
+            Reason::WrongLength => 4,
+            Reason::OutOfRange => 5,
+            Reason::NotFinite => 6,
+            Reason::NotHeld => 7,
+            Reason::NotInvertible => 8,
+            Reason::NoSlot => 9,
+            Reason::NoWords => 10,
+        }
+    }
 }
+
+// Why a command was refused. The index is 0 if a reason has no word to point at.
+#[derive(Clone, Copy, Debug, PartialEq, Eq)]
+pub struct Refused {
+    pub reason: Reason,
+    pub index: u32,
+}
+
+// What checks come to: nothing was found wrong, or the first refusal.
+pub type Verdict<T = ()> = Result<T, Refused>;
 
 // A refusal, as a host is to be told of it (no call does so yet): the number of its reason, the
 // opcode of the header, and the index. All three are 0 if nothing was refused.
-#[derive(Clone, Copy)]
+// Stays: the reason is a number, since a host hands these three words in with a state, and
+// `refusal_ok` says which of them a state may have; an enum would ask that of the host before.
+#[derive(Clone, Copy, Debug, PartialEq, Eq)]
 pub struct Refusal {
     pub reason: u32,
     pub opcode: u32,
@@ -48,7 +72,7 @@ impl Refusal {
 }
 
 // What refusals leave behind.
-#[derive(Clone, Copy)]
+#[derive(Clone, Copy, Debug, PartialEq, Eq)]
 pub struct Notes {
     pub status: u32,
 }
@@ -59,90 +83,60 @@ impl Notes {
 }
 
 // Refusals that several commands give.
-pub fn unknown() -> Verdict
-    ensures { result ≡ verdict.Refused reason.UnknownOpcode 0 }
+pub fn unknown() -> Refused
+    ensures { result ≡ because reason.UnknownOpcode 0 }
 {
-    Verdict::Refused {
+    Refused {
         reason: Reason::UnknownOpcode,
         index: 0,
     }
 }
 
-pub fn wrong_length() -> Verdict
-    ensures { result ≡ verdict.Refused reason.WrongLength 0 }
+pub fn wrong_length() -> Refused
+    ensures { result ≡ because reason.WrongLength 0 }
 {
-    Verdict::Refused {
+    Refused {
         reason: Reason::WrongLength,
         index: 0,
     }
 }
 
-pub fn out_of_range(index: u32) -> Verdict
-    ensures { result ≡ verdict.Refused reason.OutOfRange index }
+pub fn out_of_range(index: u32) -> Refused
+    ensures { result ≡ because reason.OutOfRange index }
 {
-    Verdict::Refused {
+    Refused {
         reason: Reason::OutOfRange,
         index,
     }
 }
 
-pub fn not_held() -> Verdict
-    ensures { result ≡ verdict.Refused reason.NotHeld 0 }
+pub fn not_held() -> Refused
+    ensures { result ≡ because reason.NotHeld 0 }
 {
-    Verdict::Refused {
+    Refused {
         reason: Reason::NotHeld,
         index: 0,
     }
 }
 
-pub fn not_invertible() -> Verdict
-    ensures { result ≡ verdict.Refused reason.NotInvertible 0 }
+pub fn not_invertible() -> Refused
+    ensures { result ≡ because reason.NotInvertible 0 }
 {
-    Verdict::Refused {
+    Refused {
         reason: Reason::NotInvertible,
         index: 0,
     }
 }
 
-// One check, and if it finds nothing, the next.
-pub fn and_then(first: Verdict, next: Verdict) -> Verdict
-    ensures { result ≡ and_then first next }
-{
-    let Verdict::Done = first else {
-        return first;
-    };
-    next
-}
-
-// The number of a reason, rule 3.5.
-pub fn number(reason: Reason) -> u32
-    ensures { result ≡ number_of reason }
+// The one place where a reason becomes a status bit: 2 for a zero opcode, 6 for no room, else 3.
+fn bit_for(reason: Reason) -> u32
+    ensures { result ≡ bit_for (number_of reason) }
 {
     match reason {
-        Reason::ZeroOpcode => 1,
-        Reason::CountTooLarge => 2,
-        Reason::UnknownOpcode => 3,
-        Reason::WrongLength => 4,
-        Reason::OutOfRange => 5,
-        Reason::NotFinite => 6,
-        Reason::NotHeld => 7,
-        Reason::NotInvertible => 8,
-        Reason::NoSlot => 9,
-        Reason::NoWords => 10,
+        Reason::ZeroOpcode => 4,
+        Reason::NoSlot | Reason::NoWords => 64,
+        _ => 8,
     }
-}
-
-// The one place where a reason becomes a status bit: 2 for a zero opcode, 6 for no room, else 3.
-fn bit_for(number: u32) -> u32
-    ensures { result ≡ bit_for number }
-{
-    if number == 1 {
-        return 4;
-    }
-    if number <= 8 {
-        return 8;
-    }
-    64
 }
 
 // The status after a verdict: no bit is ever cleared.
@@ -150,8 +144,8 @@ fn status_after(status: u32, verdict: Verdict) -> u32
     ensures { result ≡ bit_or status (bits_of verdict) }
 {
     match verdict {
-        Verdict::Done => status,
-        Verdict::Refused { reason, index: _ } => status | bit_for(number(reason)),
+        Ok(()) => status,
+        Err(refused) => status | bit_for(refused.reason),
     }
 }
 
@@ -159,17 +153,14 @@ fn status_after(status: u32, verdict: Verdict) -> u32
 fn first_after(first: Refusal, opcode: u32, verdict: Verdict) -> Refusal
     ensures { result ≡ first_after first opcode verdict }
 {
-    let Verdict::Refused { reason, index } = verdict else {
-        return first;
-    };
-    if first.reason == 0 {
-        return Refusal {
-            reason: number(reason),
+    match verdict {
+        Err(refused) if first.reason == 0 => Refusal {
+            reason: u32::from(refused.reason),
             opcode,
-            index,
-        };
+            index: refused.index,
+        },
+        _ => first,
     }
-    first
 }
 
 // The one place where a refusal is noted: of a command, or of a header, with this opcode.
@@ -182,17 +173,13 @@ pub fn noted(notes: Notes, opcode: u32, verdict: Verdict) -> Notes
 }
 
 // Is this a refusal that a state may have?
+#[tactic(auto, unfolding(crate::specs::Verdict::refusal_ok))]
 pub fn refusal_ok(first: Refusal) -> bool
     ensures { result ≡ refusal_ok first }
 {
     if first.reason == 0 {
-        if first.opcode == 0 {
-            return first.index == 0;
-        }
-        return false;
+        first.opcode == 0 && first.index == 0
+    } else {
+        first.reason <= 10 && first.index <= 28
     }
-    if first.reason > 10 {
-        return false;
-    }
-    first.index <= 28
 }

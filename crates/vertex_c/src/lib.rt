@@ -8,48 +8,38 @@ pub mod record;
 ghost use Rattle.std.specs.Prelude.{◌*◌, ◌≤◌, length};
 
 use vector::matrix::Matrix;
-use vector::normal::{Inverse, Matrix3};
+use vector::normal::Matrix3;
 
 // Matrix 16, position 4.
-pub fn vertex_transform(x: &[f32], out: &mut [f32; 4])
+pub fn vertex_transform(x: &[f32]) -> [f32; 4]
     requires { 20 ≤ length x.now }
 {
     let m = record::matrices(x);
-    let position = record::four(x, 16);
-    *out = vector::matrix::transform_matrix(&m, 0, position);
+    vector::matrix::transform_matrix(&m, 0, record::cells(x, 16))
 }
 
 // Two matrices of 16.
-pub fn vertex_multiply(x: &[f32], out: &mut [f32; 16])
+pub fn vertex_multiply(x: &[f32]) -> [f32; 16]
     requires { 32 ≤ length x.now }
 {
     let m = record::matrices(x);
-    let product = vector::matrix::multiply_matrix(&m, 0, 1);
-    let cells = product.cells;
-    *out = cells;
+    vector::matrix::multiply_matrix(&m, 0, 1).cells
 }
 
 fn nine(m: Matrix3) -> [f32; 9] {
     [m.a, m.b, m.c, m.d, m.e, m.f, m.g, m.h, m.i]
 }
 
-// A matrix of 16. If there is no inverse, the answer is false and nothing is written.
-pub fn vertex_inverse(x: &[f32], out: &mut [f32; 9]) -> bool
+// A matrix of 16, which may have no inverse.
+pub fn vertex_inverse(x: &[f32]) -> Option<[f32; 9]>
     requires { 16 ≤ length x.now }
 {
-    let cells = record::sixteen(x);
-    let inverse = vector::normal::inverse_transpose_3x3(Matrix { cells: cells });
-    match inverse {
-        Inverse::Of(m) => {
-            *out = nine(m);
-            true
-        }
-        Inverse::Singular => false,
-    }
+    let cells = record::cells(x, 0);
+    vector::normal::inverse_transpose_3x3(Matrix { cells }).map(nine)
 }
 
 // Three by three matrix 9, normal 3.
-pub fn vertex_apply(x: &[f32], out: &mut [f32; 3])
+pub fn vertex_apply(x: &[f32]) -> [f32; 3]
     requires { 12 ≤ length x.now }
 {
     let m = Matrix3 {
@@ -63,34 +53,34 @@ pub fn vertex_apply(x: &[f32], out: &mut [f32; 3])
         h: x[7],
         i: x[8],
     };
-    *out = vector::normal::apply_normal_matrix(m, record::three(x, 9));
+    vector::normal::apply_normal_matrix(m, record::cells(x, 9))
 }
 
-pub fn vertex_normalize(x: &[f32], out: &mut [f32; 3])
+pub fn vertex_normalize(x: &[f32]) -> [f32; 3]
     requires { 3 ≤ length x.now }
 {
-    *out = vector::three::normalize(record::three(x, 0));
+    vector::three::normalize(record::cells(x, 0))
 }
 
 // Albedo 4, position 3, normal 3, eight lights of 16.
-pub fn vertex_shade(x: &[f32], out: &mut [f32; 4])
+pub fn vertex_shade(x: &[f32]) -> [f32; 4]
     requires { 138 ≤ length x.now }
 {
-    let albedo = record::four(x, 0);
-    let position = record::three(x, 4);
-    let normal = record::three(x, 7);
-    let lights = record::lights(x);
-    *out = light::shade_vertex(albedo, position, normal, lights);
+    let albedo = record::cells(x, 0);
+    let position = record::cells(x, 4);
+    let normal = record::cells(x, 7);
+    light::shade_vertex(albedo, position, normal, &record::lights(x))
 }
 
 // A position of 4.
 pub fn vertex_distance(x: &[f32], plane: usize) -> f32
     requires { 4 ≤ length x.now }
 {
-    clip::vertex::clip_distance(record::corner(record::four(x, 0)), plane)
+    clip::vertex::clip_distance(record::corner(record::cells(x, 0)), plane)
 }
 
 // `count` vertices of 16 go in, and the answer says how many come out.
+// Stays: a buffer and a count, as `vertex_c_c` exports it.
 pub fn vertex_clip(x: &[f32], count: usize, plane: usize, out: &mut [f32; 448]) -> usize
     requires { (count ≤ 19) × (count * 16 ≤ length x.now) }
     ensures { result ≤ 28 }

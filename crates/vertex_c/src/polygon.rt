@@ -10,15 +10,10 @@ pub fn of(x: &[f32], count: usize) -> Polygon
 {
     let empty = crate::record::corner([0.0; 4]);
     let mut vertices = [empty; 28];
-    let mut i: usize = 0;
-    while i < count {
+    for i in 0..count {
         vertices[i] = crate::record::vertex(x, i * 16);
-        i += 1;
     }
-    Polygon {
-        vertices: vertices,
-        count: count,
-    }
+    Polygon { vertices, count }
 }
 
 fn flat(v: ClipVertex) -> [f32; 16] {
@@ -42,29 +37,13 @@ fn flat(v: ClipVertex) -> [f32; 16] {
     ]
 }
 
-fn put_vertex(v: ClipVertex, k: usize, out: &mut [f32; 448])
-    requires { k < 28 }
-{
-    let cells = flat(v);
-    let start = k * 16;
-    let mut i: usize = 0;
-    while i < 16 {
-        out[start + i] = cells[i];
-        i += 1;
-    }
-}
-
 // How many vertices were written.
 pub fn put(polygon: Polygon, out: &mut [f32; 448]) -> usize
     requires { polygon.count ≤ 28 }
     ensures { result ≤ 28 }
 {
-    let count = polygon.count;
-    let mut i: usize = 0;
-    while i < count {
-        let v = polygon.vertices[i];
-        put_vertex(v, i, out);
-        i += 1;
+    for (k, v) in polygon.vertices[..polygon.count].iter().enumerate() {
+        out[k * 16..k * 16 + 16].copy_from_slice(&flat(*v));
     }
-    count
+    polygon.count
 }

@@ -8,7 +8,7 @@ ghost use Rattle.std.specs.Prelude.{◌*◌, ◌≤◌, length};
 pub extern "C" fn vertex_transform(x: &[f32], out: &mut [f32; 4])
     requires { 20 ≤ length x.now }
 {
-    vertex_c::vertex_transform(x, out)
+    *out = vertex_c::vertex_transform(x);
 }
 
 // Two matrices of 16.
@@ -16,15 +16,22 @@ pub extern "C" fn vertex_transform(x: &[f32], out: &mut [f32; 4])
 pub extern "C" fn vertex_multiply(x: &[f32], out: &mut [f32; 16])
     requires { 32 ≤ length x.now }
 {
-    vertex_c::vertex_multiply(x, out)
+    *out = vertex_c::vertex_multiply(x);
 }
 
 // A matrix of 16. If there is no inverse, the answer is false and nothing is written.
+// Stays: C has no Option, so a flag and an array.
 #[unsafe(no_mangle)]
 pub extern "C" fn vertex_inverse(x: &[f32], out: &mut [f32; 9]) -> bool
     requires { 16 ≤ length x.now }
 {
-    vertex_c::vertex_inverse(x, out)
+    match vertex_c::vertex_inverse(x) {
+        Some(inverse) => {
+            *out = inverse;
+            true
+        }
+        None => false,
+    }
 }
 
 // Three by three matrix 9, normal 3.
@@ -32,14 +39,14 @@ pub extern "C" fn vertex_inverse(x: &[f32], out: &mut [f32; 9]) -> bool
 pub extern "C" fn vertex_apply(x: &[f32], out: &mut [f32; 3])
     requires { 12 ≤ length x.now }
 {
-    vertex_c::vertex_apply(x, out)
+    *out = vertex_c::vertex_apply(x);
 }
 
 #[unsafe(no_mangle)]
 pub extern "C" fn vertex_normalize(x: &[f32], out: &mut [f32; 3])
     requires { 3 ≤ length x.now }
 {
-    vertex_c::vertex_normalize(x, out)
+    *out = vertex_c::vertex_normalize(x);
 }
 
 // Albedo 4, position 3, normal 3, eight lights of 16.
@@ -47,7 +54,7 @@ pub extern "C" fn vertex_normalize(x: &[f32], out: &mut [f32; 3])
 pub extern "C" fn vertex_shade(x: &[f32], out: &mut [f32; 4])
     requires { 138 ≤ length x.now }
 {
-    vertex_c::vertex_shade(x, out)
+    *out = vertex_c::vertex_shade(x);
 }
 
 // A position of 4.

@@ -9,8 +9,8 @@ use lib.ListN.{get_or}
 use Rattle.laws.specs.Determines.{Determines}
 use Rattle.screen.specs.Plane.{Answered, answered}
 use Rattle.screen.specs.declared.plane.Rgba.{Rgba}
-use Rattle.screen.specs.declared.plane.Read.{Read}
-use Rattle.screen.specs.declared.plane.Read.TheVariants.{Colour, WrongLength}
+use Rattle.screen.specs.declared.plane.WrongLength.{WrongLength}
+use Rattle.std.specs.Prelude.{Result, Ok, Err}
 use Rattle.execute.specs.Kept.{machine}
 use Rattle.vpu.specs.declared.Answer.{Answer}
 use Rattle.vpu.specs.declared.Answer.TheVariants as answer
@@ -59,11 +59,11 @@ feed_once κs a x y ws vs p q =
 abbrev colour_in : List ℕ → Rgba
 colour_in l = record { r = get_or l 0 0; g = get_or l 1 0; b = get_or l 2 0; a = get_or l 3 0 }
 
-answered_once : (r r' : Read) → answered r ≡ answered r' → r ≡ r'
-answered_once (Colour c) (Colour d) e = ap (λ (a : Answered). Colour (colour_in a.bytes)) e
-answered_once (Colour c) WrongLength e = let z : ◌≡◌ {A = ℕ} 0 1 = ap (λ (a : Answered). a.number) e in absurd (omega arith)
-answered_once WrongLength (Colour d) e = let z : ◌≡◌ {A = ℕ} 1 0 = ap (λ (a : Answered). a.number) e in absurd (omega arith)
-answered_once WrongLength WrongLength e = refl
+answered_once : (r r' : Result Rgba WrongLength) → answered r ≡ answered r' → r ≡ r'
+answered_once (Ok c) (Ok d) e = ap (λ (a : Answered). Ok (colour_in a.bytes)) e
+answered_once (Ok c) (Err d) e = let z : ◌≡◌ {A = ℕ} 0 1 = ap (λ (a : Answered). a.number) e in absurd (omega arith)
+answered_once (Err c) (Ok d) e = let z : ◌≡◌ {A = ℕ} 1 0 = ap (λ (a : Answered). a.number) e in absurd (omega arith)
+answered_once (Err c) (Err d) e = refl
 
 pub pixel_once : Determines 1 pixel.ps pixel.r pixel-reads.Learnt
 pixel_once κs a x y ws vs p q = (answered_once x y (p ∙ sym q), refl)

@@ -11,7 +11,7 @@ use lib.ListN.{length}
 use borrow.Author.Tests.{eqb-true, eqb-false, ltb-false}
 use Rattle.settings.specs.Settings.{settings_ok}
 use Rattle.verdict.specs.declared.Reason.TheVariants.{ZeroOpcode, CountTooLarge}
-use Rattle.verdict.specs.declared.Verdict.TheVariants.{Refused}
+use Rattle.verdict.specs.Verdict.{refused}
 use Rattle.state.specs.State.{most_payload, begun_ok, well_formed}
 use Rattle.state.specs.declared.State.{State}
 use Rattle.state.proofs.Formed.{parts, formed, begun_made, begun-nothing, begun_idle, begun_op}
@@ -43,8 +43,8 @@ module _ {t m : ℕ} where
   header_good c op n h z small =
       let i = begun_idle c.opcode c.box.gathered c.wanted h.begun_ok z in
       let same : (v : _) → Good (dropped as_box c op v).control t m = λ v. record { settings = h.settings; begun_ok = h.begun_ok; stands = h.stands } in
-      either_good (eqb op 0) (dropped as_box c op (Refused ZeroOpcode 0)) _ (λ e. same (Refused ZeroOpcode 0))
-      (λ e. either_good (ltb most_payload n) (dropped as_box c op (Refused CountTooLarge 0)) _ (λ f. same (Refused CountTooLarge 0))
+      either_good (eqb op 0) (dropped as_box c op (refused ZeroOpcode 0)) _ (λ e. same (refused ZeroOpcode 0))
+      (λ e. either_good (ltb most_payload n) (dropped as_box c op (refused CountTooLarge 0)) _ (λ f. same (refused CountTooLarge 0))
       (λ f. either_good (eqb n 0) (execute as_box (begun as_box c op 0)) (still as_box (begun as_box c op n))
       (λ g. executed_good (begun as_box c op 0) h.settings (rw i.1 (omega arith)) h.stands)
       (λ g. record {

@@ -2,34 +2,47 @@
 // `reset`, `feed` and `pixel`.
 #![tactic(auto)]
 
-ghost use Rattle.std.specs.Prelude.{◌≡◌, ◌≤◌, length, replicate};
+ghost use Rattle.std.specs.Prelude.{◌≡◌};
 ghost use Rattle.screen.specs.Plane.{answered, pixel_of};
-ghost use Rattle.screen.specs.Depths.{far_ints, far_floats};
 ghost use Rattle.execute.specs.Kept.{machine};
 ghost use Rattle.vpu.specs.Calls.{number_of, outcome, lengths_ok, reset, feed};
 
-use screen::plane::Read;
-use state::State;
-
-const PIXELS: usize = 76800;
+use screen::plane::{PIXELS, PLANE_BYTES, Rgba, WrongLength};
+use state::{MAX_COMMAND_WORDS, State};
 
 const MOST_WORDS: usize = 16777216;
 
 // What a call answers: 0, 1 and 2 of rule 1.5.
-#[derive(Clone, Copy)]
+#[derive(Clone, Copy, Debug, PartialEq, Eq)]
 pub enum Answer {
     Done,
     WrongLength,
     Malformed,
 }
 
-#[derive(Clone, Copy)]
+impl From<Answer> for u32 {
+    ghost from_gives = { λ a n. n ≡ number_of a };
+
+    fn from(answer: Answer) -> u32 {
+        match answer {
+            Answer::Done => 0,
+            Answer::WrongLength => 1,
+            Answer::Malformed => 2,
+        }
+    }
+}
+
+// What a call answers, and the state after it.
+// Stays: no Result, since the clauses of `reset` and `feed`, and C, are given a state also by a call
+// that is refused.
+#[derive(Clone, Copy, Debug, PartialEq)]
 pub struct Fed {
     pub answer: Answer,
     pub state: State,
 }
 
 // Are the lent memories as long as they have to be?
+#[tactic(auto, unfolding(crate::specs::Calls::lengths_ok))]
 pub fn lengths_ok(
     plane: usize,
     depth: usize,
@@ -40,42 +53,12 @@ pub fn lengths_ok(
 ) -> bool
     ensures { result ≡ lengths_ok plane depth depth_f32 command textures models }
 {
-    if plane != screen::plane::PLANE_BYTES {
-        return false;
-    }
-    if depth != PIXELS {
-        return false;
-    }
-    if depth_f32 != PIXELS {
-        return false;
-    }
-    if command != state::MAX_COMMAND_WORDS as usize {
-        return false;
-    }
-    if textures > MOST_WORDS {
-        return false;
-    }
-    models <= MOST_WORDS
-}
-
-fn zero_bytes(plane: &mut [u8])
-    ensures { plane.new ≡ replicate (length plane.old) 0 }
-{
-    let mut i = 0;
-    while i < plane.len() {
-        plane[i] = 0;
-        i += 1;
-    }
-}
-
-fn zero_words(store: &mut [u32])
-    ensures { store.new ≡ replicate (length store.old) 0 }
-{
-    let mut i = 0;
-    while i < store.len() {
-        store[i] = 0;
-        i += 1;
-    }
+    plane == PLANE_BYTES
+        && depth == PIXELS
+        && depth_f32 == PIXELS
+        && command == MAX_COMMAND_WORDS as usize
+        && textures <= MOST_WORDS
+        && models <= MOST_WORDS
 }
 
 // The command area is lent only to have its length tested: a reset leaves it as it is.
@@ -91,26 +74,26 @@ pub fn reset(
         ≡ reset plane.old depth.old depth_f32.old command.now textures.old models.old }
 {
     let state = State::fresh();
-    if lengths_ok(
+    let fits = lengths_ok(
         plane.len(),
         depth.len(),
         depth_f32.len(),
         command.len(),
         textures.len(),
         models.len(),
-    ) {
-        zero_bytes(plane);
-        screen::depths::refill_ints(depth);
-        screen::depths::refill_floats(depth_f32);
-        zero_words(textures);
-        zero_words(models);
+    );
+    if !fits {
         return Fed {
-            answer: Answer::Done,
+            answer: Answer::WrongLength,
             state,
         };
     }
+    plane.fill(0);
+    screen::depths::refill(depth, depth_f32);
+    textures.fill(0);
+    models.fill(0);
     Fed {
-        answer: Answer::WrongLength,
+        answer: Answer::Done,
         state,
     }
 }
@@ -160,7 +143,7 @@ pub fn feed(
 }
 
 // The four bytes of a pixel, or that the plane's length is wrong.
-pub fn pixel(plane: &[u8], x: usize, y: usize) -> Read
+pub fn pixel(plane: &[u8], x: usize, y: usize) -> Result<Rgba, WrongLength>
     ensures { answered result ≡ pixel_of plane.now x y }
 {
     screen::plane::pixel(plane, x, y)

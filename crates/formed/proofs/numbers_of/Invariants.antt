@@ -1,11 +1,7 @@
 -- `formed::numbers_of` meets its contract. The invariant: after i turns the first i elements are the map's (`Mapped.antt`). Assumes nothing.
-use Prim.Native.Nat.{◌-◌}
 use Rattle.formed.specs.Tests.{number_of}
 use Rattle.store.proofs.Mapped.{Mapped}
 use Rattle.formed.proofs.numbers_of.Given as goal
 
 abbrev pub invariant-loop-i : goal.invariant-loop-i
-invariant-loop-i l = Mapped number_of 64 l.slots l.i l.out
-
-abbrev pub decreases-loop-i : goal.decreases-loop-i
-decreases-loop-i l = 64 - l.i
+invariant-loop-i l = Mapped number_of 64 l.slots l.i l.numbers

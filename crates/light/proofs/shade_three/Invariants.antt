@@ -1,12 +1,7 @@
--- The invariant: for each corner, the lights that are left, from what has been added, come to the whole sum. Assumes nothing.
-use Prim.Native.Nat.{ℕ, ◌-◌, ◌≤◌}
-use mathlib.Core.Path.{◌≡◌}
-use lib.ListN.{length}
-use Rattle.light.proofs.Three.{left_of}
+-- The invariant: the corners below v are shaded. Assumes nothing.
+use Rattle.std.proofs.Common.{◌≡◌, ℕ, ◌<◌, length}
+use Rattle.light.specs.Light.{row_of, shade_at}
 use Rattle.light.proofs.shade_three.Given as goal
 
-abbrev pub invariant-loop-i : goal.invariant-loop-i
-invariant-loop-i l = (l.i ≤ 24) × (length l.lights ≡ 8) × (length l.rgb ≡ 3) × ((u : ℕ) → left_of l.albedos l.positions l.normals l.views l.lights 0 l.initial.rgb u ≡ left_of l.albedos l.positions l.normals l.views l.lights l.i l.rgb u)
-
-abbrev pub decreases-loop-i : goal.decreases-loop-i
-decreases-loop-i l = 24 - l.i
+abbrev pub invariant-loop-v : goal.invariant-loop-v
+invariant-loop-v l = (length l.colors ≡ 3) × ((k : ℕ) → k < l.v → row_of l.colors k ≡ shade_at l.albedos l.positions l.normals l.lights k)

@@ -5,7 +5,4 @@ use Rattle.payload.specs.Words.{finite_from}
 use Rattle.payload.proofs.finite_from.Given as goal
 
 abbrev pub invariant-loop-i : goal.invariant-loop-i
-invariant-loop-i l = (l.i ≤ l.end) × (l.end ≡ l.start + l.n) × (finite_from l.p l.start l.n ≡ finite_from l.p l.i (l.end - l.i))
-
-abbrev pub decreases-loop-i : goal.decreases-loop-i
-decreases-loop-i l = l.end - l.i
+invariant-loop-i l = (l.i ≤ l.start + l.n) × (finite_from l.p l.start l.n ≡ finite_from l.p l.i (l.start + l.n - l.i))

@@ -1,11 +1,7 @@
 -- The invariant: after i turns the first i elements are the map's (`Mapped.antt`). Assumes nothing.
-use Prim.Native.Nat.{◌-◌}
 use Rattle.plain.specs.Plain.{light_in}
-use Rattle.store.proofs.Mapped.{Mapped}
+use Rattle.plain.proofs.Mapped.{Mapped}
 use Rattle.plain.proofs.lights_in.Given as goal
 
 abbrev pub invariant-loop-i : goal.invariant-loop-i
 invariant-loop-i l = Mapped light_in 8 l.lights l.i l.out
-
-abbrev pub decreases-loop-i : goal.decreases-loop-i
-decreases-loop-i l = 8 - l.i

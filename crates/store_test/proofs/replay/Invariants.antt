@@ -1,11 +1,10 @@
--- `store_test::replay`: the store keeps its length, and its size stays within it; a record ends after it begins. Assumes nothing.
-use Prim.Native.Nat.{◌-◌, ◌≤◌}
-use mathlib.Core.Path.{◌≡◌}
+-- `store_test::replay`: the store's size stays within the room, and each record leaves fewer words. Assumes nothing.
+use Prim.Native.Nat.{◌≤◌}
 use lib.ListN.{length}
 use Rattle.store_test.proofs.replay.Given as goal
 
-abbrev pub invariant-loop-at : goal.invariant-loop-at
-invariant-loop-at l = (length l.store ≡ length l.initial.store) × (l.size ≤ length l.store)
+abbrev pub invariant-loop-record : goal.invariant-loop-record
+invariant-loop-record l = l.size ≤ length l.room
 
-abbrev pub decreases-loop-at : goal.decreases-loop-at
-decreases-loop-at l = length l.words - l.at
+abbrev pub decreases-loop-record : goal.decreases-loop-record
+decreases-loop-record l = length l.left

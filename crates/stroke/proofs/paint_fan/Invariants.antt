@@ -1,17 +1,13 @@
 -- The invariant: painting what is left of the fan from i on gives what the whole fan gives, and both buffers keep their lengths. Assumes nothing.
-use Prim.Native.Nat.{◌-◌, ◌≤◌}
 use mathlib.Core.Path.{◌≡◌}
 use lib.ListN.{length, drop}
 use Rattle.screen.specs.Plane.{plane_bytes}
 use Rattle.screen.specs.Draw.{pixels}
 use Rattle.clip.specs.Polygons.{fan_from, fan}
-use Rattle.clip.specs.Vertices.{room, of}
+use Rattle.clip.specs.Vertices.{of}
 use Rattle.stroke.specs.Strokes.{sheet, fan_on}
 use Rattle.stroke.proofs.paint_fan.Given as goal
 
 abbrev pub invariant-loop-i : goal.invariant-loop-i
-invariant-loop-i l = (l.i ≤ room) × (length l.plane ≡ plane_bytes) × (length l.depth_f32 ≡ pixels)
-    × (fan_on l.brush l.texels (fan_from l.first (drop l.i (of l.polygon))) (sheet l.plane l.depth_f32) ≡ fan_on l.brush l.texels (fan (of l.polygon)) (sheet l.initial.plane l.initial.depth_f32))
-
-abbrev pub decreases-loop-i : goal.decreases-loop-i
-decreases-loop-i l = l.polygon.count - l.i
+invariant-loop-i l = (length l.plane ≡ plane_bytes) × (length l.depth_f32 ≡ pixels)
+    × (fan_on l.brush l.texels (fan_from l.first (drop l.i (of l.fn.polygon))) (sheet l.plane l.depth_f32) ≡ fan_on l.brush l.texels (fan (of l.fn.polygon)) (sheet l.initial.plane l.initial.depth_f32))

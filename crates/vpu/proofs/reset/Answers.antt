@@ -5,23 +5,8 @@ use Rattle.run.proofs.Laws.{parts_machine}
 use Rattle.vpu.proofs.Laws.{reset_wrong, reset-done}
 use Rattle.vpu.proofs.reset.Goals as goal
 
-pub returns-then-lengths_ok : goal.returns-then-lengths_ok
-unfolding cleared
-returns-then-lengths_ok c = ap (outcome 0)
-    (parts_machine
-    (record {
-      state-is = c.fresh-state.ensures;
-      plane-is = c.zero_bytes.ensures;
-      depth_is = c.refill_ints.ensures;
-      floats_is = c.refill_floats.ensures;
-      command-is = refl;
-      textures-is = c.zero_words.ensures;
-      models-is = c.zero_words-then-lengths_ok.ensures;
-    }))
-    ∙ sym (reset-done _ _ _ _ _ _ (sym c.lengths_ok.ensures ∙ c.if-lengths_ok.true))
-
-pub returns : goal.returns
-returns c = ap (outcome 1)
+pub returns-then-not-fits : goal.returns-then-not-fits
+returns-then-not-fits c = ap (outcome 1)
     (parts_machine
     (record {
       state-is = c.fresh-state.ensures;
@@ -32,4 +17,19 @@ returns c = ap (outcome 1)
       textures-is = refl;
       models-is = refl;
     }))
-    ∙ sym (reset_wrong _ _ _ _ _ _ (sym c.lengths_ok.ensures ∙ c.if-lengths_ok.false))
+    ∙ sym (reset_wrong _ _ _ _ _ _ (sym c.lengths_ok-fits.ensures ∙ c.if-not-fits.true))
+
+pub returns : goal.returns
+unfolding cleared
+returns c = ap (outcome 0)
+    (parts_machine
+    (record {
+      state-is = c.fresh-state.ensures;
+      plane-is = c.fill.ensures.after (λ y e. e);
+      depth_is = c.refill.ensures.ints;
+      floats_is = c.refill.ensures.floats;
+      command-is = refl;
+      textures-is = c.fill-2.ensures.after (λ y e. e);
+      models-is = c.fill-3.ensures.after (λ y e. e);
+    }))
+    ∙ sym (reset-done _ _ _ _ _ _ (sym c.lengths_ok-fits.ensures ∙ c.if-not-fits.false))

@@ -1,10 +1,7 @@
--- `words::words_of`: the words written so far are those of the bytes, and as many fit. Assumes nothing.
-use Prim.Native.Nat.{◌-◌}
-use Rattle.words.proofs.Read.{Read}
+-- `words::words_of`: the words written so far are those of the bytes. Assumes nothing.
+use Rattle.std.proofs.Common.{◌≡◌, ℕ, ◌*◌, ◌<◌, get_or}
+use Rattle.words.specs.Little.{word_at}
 use Rattle.words.proofs.words_of.Given as goal
 
 abbrev pub invariant-loop-j : goal.invariant-loop-j
-invariant-loop-j l = Read l.bytes l.initial.words l.words l.n l.j
-
-abbrev pub decreases-loop-j : goal.decreases-loop-j
-decreases-loop-j l = l.n - l.j
+invariant-loop-j l = (k : ℕ) → k < l.j → get_or l.words k 0 ≡ word_at l.bytes (k * 4)

@@ -1,34 +1,29 @@
-use Rattle.std.proofs.Common.{◌≡◌, ◌+◌, ◌-◌, ◌≤◌, [], ◌∷◌, length, get_or, drop, sym, refl, ◌∙◌, arith, drop_of_length-le, length-take-le}
-use Rattle.clip.specs.Vertices.{full, room, of, no_vertex}
-use Rattle.clip.proofs.Held.{held-from}
+use Rattle.std.proofs.Common.{◌≡◌, suc, ◌+◌, ◌-◌, ◌<◌, ◌≤◌, [], ◌∷◌, length, get_or, drop, sym, refl, ◌∙◌, add-one, arith, drop_of_length-le, drop-cons}
+use Rattle.clip.specs.Vertices.{full, of, no_vertex}
 use Rattle.clip.proofs.Whole.{next_bounds, next_more, next_none}
 use Rattle.clip.proofs.polygon.next_cut.Goals as goal
-use Rattle.clip.proofs.polygon.next_cut.Goals.{Start}
 
--- the array of the parameter has room for so many, by what owning it says
-fits : (c : Start) → c.args.polygon.count ≤ length c.args.polygon.vertices
-fits c =
-    let long : length c.args.polygon.vertices ≡ room = c.well_formed.0.1.1.0.1.0.1 in
-    omega arith
+pub loop-vertex-init : goal.loop-vertex-init
+loop-vertex-init c = ((omega arith, omega arith), refl)
 
-pub loop-i-init : goal.loop-i-init
-loop-i-init c = (omega arith, ((omega arith, omega arith), refl))
-
-pub loop-i-preserved : goal.loop-i-preserved
-loop-i-preserved c = let i = c.loop-i.i in
-    let stop = c.loop-i.stop in
+pub loop-vertex-preserved : goal.loop-vertex-preserved
+loop-vertex-preserved c =
+    let i = c.loop-vertex.vertex-index in
+    let stop = c.loop-vertex.stop in
     let plane = c.args.plane in
-    let v = get_or c.args.polygon.vertices i no_vertex in
-    let w = c.loop-i.invariant.1 in
+    let vs = of c.args.polygon in
+    let v = get_or vs i no_vertex in
+    let w = c.loop-vertex.invariant in
     let e = c.first_out-stop.ensures in
     let b = next_bounds full (stop - plane) plane (v ∷ []) in
-    let here = held-from c.args.polygon.vertices c.args.polygon.count (fits c.before.before.before.before) i c.loop-i-test.true in
-    let more = next_more full (stop - plane) plane v (drop (i + 1) (of c.args.polygon)) in
-    (omega arith, ((omega arith, omega arith), (rw e (sym more)) ∙ (rw here at w.1)))
+    let k : i < length vs = omega (arith, c.loop-vertex-test.true) in
+    let here = drop-cons vs i no_vertex k in
+    let more = next_more full (stop - plane) plane v (drop (suc i) vs) in
+    ((omega arith, omega arith), rw (e, add-one) (sym more ∙ (rw here at w.1)))
 
 pub returns : goal.returns
-returns c = let w = c.loop-i.invariant.1 in
+returns c = let w = c.loop-vertex.invariant in
     let vs = of c.args.polygon in
-    let past : length vs ≤ c.loop-i.i = omega (arith, length-take-le c.args.polygon.count c.args.polygon.vertices (fits c.before.before)) in
-    let e : c.loop-i.stop ≡ c.args.plane + (c.loop-i.stop - c.args.plane) = omega arith in
+    let past : length vs ≤ c.loop-vertex.vertex-index = omega (arith, c.loop-vertex-test.false) in
+    let e : c.loop-vertex.stop ≡ c.args.plane + (c.loop-vertex.stop - c.args.plane) = omega arith in
     e ∙ sym (next_none full _ _) ∙ (rw (drop_of_length-le vs past) at w.1)

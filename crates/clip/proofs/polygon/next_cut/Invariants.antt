@@ -4,8 +4,6 @@ use Rattle.clip.specs.Polygons.{next_cut}
 use Rattle.clip.specs.Vertices.{full, of}
 use Rattle.clip.proofs.polygon.next_cut.Given as goal
 
-abbrev pub invariant-loop-i : goal.invariant-loop-i
-invariant-loop-i l = (l.i ≤ l.count) × (((l.plane ≤ l.stop) × (l.stop ≤ 6)) × (next_cut full (l.stop - l.plane) l.plane (drop l.i (of l.polygon)) ≡ next_cut full (6 - l.plane) l.plane (of l.polygon)))
-
-abbrev pub decreases-loop-i : goal.decreases-loop-i
-decreases-loop-i l = l.count - l.i
+abbrev pub invariant-loop-vertex : goal.invariant-loop-vertex
+invariant-loop-vertex l = let vs = of l.fn.polygon in
+    ((l.plane ≤ l.stop) × (l.stop ≤ 6)) × (next_cut full (l.stop - l.plane) l.plane (drop l.vertex-index vs) ≡ next_cut full (6 - l.plane) l.plane vs)

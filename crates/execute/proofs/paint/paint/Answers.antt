@@ -4,6 +4,7 @@ use lib.ListN.{length}
 use Rattle.command.specs.Command.{draw_words}
 use Rattle.execute.specs.Commands.{sprite_painted, flat_painted, transformed_painted, textured_painted, model_painted}
 use Rattle.execute.proofs.Painted.{by_length, by_draw, transformed_words, textured_words, sprite-painted, flat-painted, strokes_painted}
+use Rattle.execute.proofs.Laws.{because-is}
 use Rattle.execute.proofs.paint.paint.Goals as goal
 use Rattle.execute.proofs.paint.paint.Goals.{Else-p-draw_words}
 
@@ -12,7 +13,7 @@ long : (c : Else-p-draw_words) → length c.args.p.now ≡ draw_words c.args.dra
 long c = c.if-p-draw_words.false ∙ c.draw_words.ensures
 
 pub returns-then-p-draw_words : goal.returns-then-p-draw_words
-returns-then-p-draw_words c = let both = by_length _ _ _ _ (λ e. c.if-p-draw_words.true (e ∙ sym c.draw_words.ensures)) _ _ c.wrong_length.ensures in
+returns-then-p-draw_words c = let both = by_length _ _ _ _ (λ e. c.if-p-draw_words.true (e ∙ sym c.draw_words.ensures)) _ _ (because-is c.wrong_length.ensures) in
     record { value = both.0; depth_f32_after = both.1 }
 
 pub clear-requires : goal.clear-requires

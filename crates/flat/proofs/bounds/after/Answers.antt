@@ -1,16 +1,12 @@
--- By the clauses of `high` and `most`. Assumes nothing.
-use native.Mathlib.Omega.{arith}
-use mir.ValLaws.{to_z-of_z}
+-- What is beyond the greatest of three numbers is beyond each. Assumes nothing.
+use Rattle.std.proofs.Common.{arith, pos}
+use Rattle.std.proofs.lemmas.Int.{ints, clamps}
+use Rattle.flat.proofs.Cut.{less}
 use Rattle.flat.proofs.bounds.after.Goals as goal
 
 pub returns : goal.returns
-returns c = let a = c.high.ensures in
-    let b = c.high-2.ensures in
-    let d = c.high-3.ensures in
-    let fa = c.ranges.a in
-    let fb = c.ranges.b in
-    let fc = c.ranges.c in (
-      omega arith,
-      λ x l h.
-          record { first = simp to_z-of_z at (a.1 x (omega arith) h); second = simp to_z-of_z at (b.1 x (omega arith) h); third = simp to_z-of_z at (d.1 x (omega arith) h) },
-    )
+returns c = (
+  omega (arith, ints, clamps),
+  λ x l h.
+      record { first = less c.args.a (pos x) (omega (arith, ints, clamps)); second = less c.args.b (pos x) (omega (arith, ints, clamps)); third = less c.args.c (pos x) (omega (arith, ints, clamps)) },
+)

@@ -1,16 +1,12 @@
--- By the clauses of `low` and `least`. Assumes nothing.
-use native.Mathlib.Omega.{arith}
-use mir.ValLaws.{to_z-of_z}
+-- What is before the least of three numbers is before each. Assumes nothing.
+use Rattle.std.proofs.Common.{arith, pos}
+use Rattle.std.proofs.lemmas.Int.{ints, clamps}
+use Rattle.flat.proofs.Cut.{less}
 use Rattle.flat.proofs.bounds.first.Goals as goal
 
 pub returns : goal.returns
-returns c = let a = c.low.ensures in
-    let b = c.low-2.ensures in
-    let d = c.low-3.ensures in
-    let fa = c.ranges.a in
-    let fb = c.ranges.b in
-    let fc = c.ranges.c in (
-      omega arith,
-      λ x l.
-          record { first = simp to_z-of_z at (a.1 x (omega arith)); second = simp to_z-of_z at (b.1 x (omega arith)); third = simp to_z-of_z at (d.1 x (omega arith)) },
-    )
+returns c = (
+  omega (arith, ints, clamps),
+  λ x l.
+      record { first = less (pos x) c.args.a (omega (arith, ints, clamps)); second = less (pos x) c.args.b (omega (arith, ints, clamps)); third = less (pos x) c.args.c (omega (arith, ints, clamps)) },
+)

@@ -3,8 +3,5 @@ use Rattle.std.proofs.Common.{arith}
 use Rattle.ieee.proofs.Bytes.{whole_bits}
 use Rattle.ieee.proofs.cast.cut_bits.Goals as goal
 
-pub returns-then-n-last : goal.returns-then-n-last
-returns-then-n-last c = omega (arith, whole_bits c.args.b c.args.last c.requires.0 c.requires.1)
-
 pub returns : goal.returns
 returns c = omega (arith, whole_bits c.args.b c.args.last c.requires.0 c.requires.1)

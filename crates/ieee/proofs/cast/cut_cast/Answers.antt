@@ -8,14 +8,11 @@ pub truncating_f32_to_u64-n-requires : goal.truncating_f32_to_u64-n-requires
 unfolding of_bits neg
 truncating_f32_to_u64-n-requires c = record { lower_bound = subst T (sym c.if-x.true) tt; upper_bound = subst T (sym c.if-x-2.true) tt }
 
-pub returns-then-n-last : goal.returns-then-n-last
-returns-then-n-last c = omega (arith, c.truncating_f32_to_u64-n.ensures, cut_is c.args.x c.args.last c.ranges.last.fits)
+pub returns-then-x-2 : goal.returns-then-x-2
+returns-then-x-2 c = omega (arith, c.min.ensures, c.truncating_f32_to_u64-n.ensures, cut_is c.args.x c.args.last c.ranges.last.fits)
 
-pub returns-else-n-last : goal.returns-else-n-last
-returns-else-n-last c = omega (arith, c.truncating_f32_to_u64-n.ensures, cut_is c.args.x c.args.last c.ranges.last.fits)
-
-pub returns-else-x-2 : goal.returns-else-x-2
-returns-else-x-2 c = cut_over c.args.x c.args.last c.ranges.last.fits c.if-x.true c.if-x-2.false
+pub returns-then-x : goal.returns-then-x
+returns-then-x c = cut_over c.args.x c.args.last c.ranges.last.fits c.if-x.true c.if-x-2.false
 
 pub returns : goal.returns
 returns c = cut_under c.args.x c.args.last c.if-x.false

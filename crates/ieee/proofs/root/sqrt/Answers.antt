@@ -1,12 +1,12 @@
 -- `ieee::root::sqrt` meets its contract: by cases on x, and by `root_bits` if x is a number above 0. Assumes nothing.
 use Rattle.std.proofs.Common.{◌≡◌, ℕ, zero, suc, ◌*◌, ◌%◌, ◌<◌, ◌≤◌, Bool, true, false, T, eqb, sym, refl, ap, ◌∙◌, subst, mul-pos, zero-mul, arith, eqb→eq, ltb-false, ltb-true, le-ltb}
-use lib.Ieee.{Float, nan, inf, fin, binary32, up, down, of_bits, to_bits, nan_bits, lt, eq, level, fits}
+use lib.Ieee.{Float, nan, inf, fin, binary32, up, down, of_bits, to_bits, lt, eq, level, fits}
 use lib.Ieee.Bits.{of_bits-to_bits, nan_bits_above}
 use lib.Ieee.Fits.{and_l, up_pos}
 use Rattle.ieee.specs.Root.{root, root_wholes}
 use Rattle.ieee.specs.Units.{zero32, wholes}
 use Rattle.ieee.proofs.Above.{top, range}
-use Rattle.ieee.proofs.Compare.{differ, number, zero_by_zero}
+use Rattle.ieee.proofs.Compare.{differ, number}
 use Rattle.ieee.proofs.root.sqrt.Goals as goal
 use Rattle.ieee.proofs.root.sqrt.Goals.{Start, Then-x-2}
 
@@ -60,10 +60,6 @@ patterned c =
     let e = of_bits-to_bits binary32 c.args.x (held c.before.before) in
     range (to_bits binary32 c.args.x) (ap (λ (y : Float). lt zero32 y) e ∙ c.if-x.true) (ap (λ (y : Float). lt y top) e ∙ c.if-x-2.true)
 
-pub float_from_bits-t-4 : goal.float_from_bits-t-4
-unfolding nan_bits
-float_from_bits-t-4 c = tt
-
 pub float_to_bits-b : goal.float_to_bits-b
 float_to_bits-b c = number zero32 c.args.x c.if-x.true
 
@@ -87,5 +83,6 @@ returns-then-x c = root_endless c.args.x c.if-x.true c.if-x-2.false
 pub returns-then-x-3 : goal.returns-then-x-3
 returns-then-x-3 c = root-zero c.args.x c.if-x-3.true
 
-pub returns : goal.returns
-returns c = zero_by_zero ∙ root_none c.args.x c.if-x.false c.if-x-3.false
+pub returns-else-x-3 : goal.returns-else-x-3
+unfolding of_bits
+returns-else-x-3 c = root_none c.args.x c.if-x.false c.if-x-3.false

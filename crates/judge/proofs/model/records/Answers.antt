@@ -1,48 +1,29 @@
-use Prim.Native.Nat.{◌-◌, ◌*◌}
-use mathlib.Core.Path.{◌≡◌, refl, sym, ◌∙◌}
-use mathlib.Core.Bool.{true}
-use native.Mathlib.Omega.{arith}
-use lib.ListN.{drop}
+-- Record after record. Assumes nothing.
+use Rattle.std.proofs.Common.{◌≡◌, ◌∙◌, rules, true, sym}
 use Rattle.payload.specs.Words.{word_at}
-use Rattle.verdict.proofs.Checks.{stopped, passed_on}
-use Rattle.decide.specs.Verdicts.{textured_verdict, triangle_of, records_verdict}
+use Rattle.decide.specs.Verdicts.{textured_verdict, triangle_of}
 use Rattle.judge.specs.Judge.{held_in}
-use Rattle.judge.proofs.Laws.{record_is, records_next, records_none}
+use Rattle.judge.proofs.Laws.{record_is, record_done, record_refused, records_none}
 use Rattle.judge.proofs.model.records.Goals as goal
-use Rattle.judge.proofs.model.records.Goals.{After-record_verdict-one, In-loop-k}
+use Rattle.judge.proofs.model.records.Goals.{After-record_verdict}
 
--- the record's verdict, and with it that of those from it on
-one-is : (c : After-record_verdict-one) → let words = drop (28 * c.loop-k.k) c.args.words.now in
-    c.record_verdict-one.result ≡ textured_verdict (triangle_of c.args.mode words) true (held_in c.args.slots (word_at words 0)) c.args.m.now
-one-is c =
-    rw c.triangle_of-triangle.ensures at c.record_verdict-one.ensures ∙ record_is _ _ _ c.normal_matrix-inverse.ensures
+one : (c : After-record_verdict) → c.record_verdict.result ≡ textured_verdict (triangle_of c.args.mode c.in-Some.record.now) true (held_in c.args.slots (word_at c.in-Some.record.now 0)) c.args.m.now
+one c = rw c.triangle_of-triangle.ensures at (c.record_verdict.ensures ∙ record_is c.triangle_of-triangle.result c.args.slots c.args.m.now c.normal_matrix-inverse.ensures)
 
-all-is : (c : In-loop-k) → records_verdict c.args.mode (held_in c.args.slots) c.args.m.now (c.args.n - c.loop-k.k) (drop (28 * c.loop-k.k) c.args.words.now)
-    ≡ records_verdict c.args.mode (held_in c.args.slots) c.args.m.now c.args.n c.args.words.now
-all-is c = c.loop-k.invariant.1
+pub loop-record-preserved : goal.loop-record-preserved
+loop-record-preserved c =
+    let front = c.in-Some.ensures.steps in
+    let inv = c.loop-record.invariant in
+    (front.0 ∙ inv.0, record_done _ _ _ front.1.0 front.1.1 inv.0 c.args.mode (held_in c.args.slots) c.args.m.now (one (goal.at.loop-record-preserved c).After-record_verdict) c.in_ok-record_verdict.was ∙ inv.1)
 
-pub loop-k-init : goal.loop-k-init
-loop-k-init c = let n = c.args.n in
-    let all : n - 0 ≡ n = omega arith in
-    (omega arith, rw all)
-
-pub overflow_mul-k : goal.overflow_mul-k
-overflow_mul-k c = omega arith
-
-pub triangle_of-triangle-requires : goal.triangle_of-triangle-requires
-triangle_of-triangle-requires c = omega (arith, c.requires)
-
-pub returns-in_default : goal.returns-in_default
-returns-in_default c = stopped (one-is (goal.at.returns-in_default c).After-record_verdict-one) _ c.in_default.is ∙ sym (records_next _ _ _ _ _ c.loop-k.k c.loop-k-test.true) ∙ all-is (goal.at.returns-in_default c).In-loop-k
-
-pub overflow_add-k : goal.overflow_add-k
-overflow_add-k c = omega arith
-
-pub loop-k-smaller : goal.loop-k-smaller
-loop-k-smaller c = omega arith
-
-pub loop-k-preserved : goal.loop-k-preserved
-loop-k-preserved c = (omega arith, passed_on (one-is (goal.at.loop-k-preserved c).After-record_verdict-one) c.in-Done.is refl ∙ sym (records_next _ _ _ _ _ c.loop-k.k c.loop-k-test.true) ∙ all-is (goal.at.loop-k-preserved c).In-loop-k)
+pub returns-in_err-record_verdict : goal.returns-in_err-record_verdict
+returns-in_err-record_verdict c =
+    let front = c.in-Some.ensures.steps in
+    let inv = c.loop-record.invariant in
+    let r = sym inv.1 ∙ record_refused _ _ _ front.1.0 front.1.1 inv.0 c.args.mode (held_in c.args.slots) c.args.m.now (one (goal.at.returns-in_err-record_verdict c).After-record_verdict) c.in_err-record_verdict.was in
+    rw r (search rules)
 
 pub returns : goal.returns
-returns c = sym (records_none _ _ _ _ _ c.loop-k.k c.loop-k-test.false) ∙ c.loop-k.invariant.1
+returns c = let end = c.in-None.ensures.steps in
+    let inv = c.loop-record.invariant in
+    sym (records_none c.args.mode (held_in c.args.slots) c.args.m.now _ (rw inv.0 at end.1.0)) ∙ inv.1

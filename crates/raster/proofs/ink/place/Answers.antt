@@ -4,23 +4,8 @@ use lib.Ieee.{binary32, of_int}
 use Rattle.ieee.proofs.Cuts.{cut_le}
 use Rattle.vector.specs.Three.{◌·◌}
 use Rattle.raster.specs.Ink.{place_of}
-use Rattle.texel.proofs.Grid.{grid, small}
+use Rattle.texel.proofs.Grid.{grid}
 use Rattle.raster.proofs.ink.place.Goals as goal
-
-pub overflow_mul-result : goal.overflow_mul-result
-overflow_mul-result c = let h = c.requires in
-    let g = c.args.s in
-    let y : c.texel.result ≤ g.height - 1 = omega (arith, c.texel.ensures, cut_le (c.mix-v.result · of_int binary32 (pos g.height)) (g.height - 1)) in
-    let l = grid g.width g.height 0 c.texel.result h.some_width h.some_height (omega arith) y in
-    record { fits = omega (arith, l, small g.width g.height h.top_width h.top_height) }
-
-pub overflow_add-result : goal.overflow_add-result
-overflow_add-result c = let h = c.requires in
-    let g = c.args.s in
-    let y : c.texel.result ≤ g.height - 1 = omega (arith, c.texel.ensures, cut_le (c.mix-v.result · of_int binary32 (pos g.height)) (g.height - 1)) in
-    let x : c.texel-2.result ≤ g.width - 1 = omega (arith, c.texel-2.ensures, cut_le (c.mix-u.result · of_int binary32 (pos g.width)) (g.width - 1)) in
-    let l = grid g.width g.height c.texel-2.result c.texel.result h.some_width h.some_height x y in
-    record { fits = omega (arith, l, small g.width g.height h.top_width h.top_height) }
 
 pub returns : goal.returns
 unfolding place_of

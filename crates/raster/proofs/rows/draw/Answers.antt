@@ -5,15 +5,15 @@ use Rattle.raster.specs.Raster.{depths_after, plane_after}
 use Rattle.raster.proofs.rows.draw.Goals as goal
 
 pub draw_rows-requires : goal.draw_rows-requires
-draw_rows-requires c = let on = rw c.in-Drawn.is at c.requires.on_screen in
+draw_rows-requires c = let on = rw c.in-Some.is at c.requires.on_screen in
     record { of-plane = c.requires.plane_len; of-depth = c.requires.depth_len; of_right = on.0; of_bottom = on.1; stored = c.requires.stored }
 
-pub returns-in-Drawn : goal.returns-in-Drawn
+pub returns-in-Some : goal.returns-in-Some
 unfolding depths_after plane_after
-returns-in-Drawn c =
+returns-in-Some c =
     let all = drawn-all c.draw_rows.ensures (omega (arith, c.requires.depth_len)) (omega (arith, c.requires.plane_len)) in
-    record { depth_after = rw c.in-Drawn.is all.0; plane_after = rw c.in-Drawn.is all.1 }
+    record { depth_after = rw c.in-Some.is all.0; plane_after = rw c.in-Some.is all.1 }
 
-pub returns-in-Nothing : goal.returns-in-Nothing
+pub returns-in_default : goal.returns-in_default
 unfolding depths_after plane_after
-returns-in-Nothing c = record { depth_after = rw c.in-Nothing.is refl; plane_after = rw c.in-Nothing.is refl }
+returns-in_default c = record { depth_after = rw c.in_default.is refl; plane_after = rw c.in_default.is refl }

@@ -15,12 +15,6 @@ draw_pixel-requires c = let v = c.loop-x.invariant in
     let g = c.requires.ready in
     let hi = c.loop-x-test.true in record { ready = record { of-plane = v.1; of-depth = v.2; of_right = g.of_right; of_bottom = g.of_bottom; stored = g.stored }; inside = record { in_x = omega (arith, hi, g.of_right); in_y = omega (arith, g.of_bottom, c.requires.top_le_y); in_box = in_bounds c.args.f.bounds c.loop-x.x c.args.y v.0 hi c.requires.top_le_y.0 c.requires.top_le_y.1 }; edges_value = c.edges_of-edges.ensures }
 
-pub overflow_step-x : goal.overflow_step-x
-overflow_step-x c = omega (arith, c.loop-x-test.true, c.requires.ready.of_right)
-
-pub loop-x-smaller : goal.loop-x-smaller
-loop-x-smaller c = omega arith
-
 pub loop-x-preserved : goal.loop-x-preserved
 loop-x-preserved c = let call = c.draw_pixel in
     let v = c.loop-x.invariant in
@@ -31,12 +25,6 @@ loop-x-preserved c = let call = c.draw_pixel in
       omega (arith, call.auto.depth, v.2),
       drawn_next v.3 call.ensures (omega arith) (omega arith) (omega arith) (omega arith) (omega (arith, g.of-depth, g.of_bottom, c.requires.top_le_y)),
     )
-
-pub shape_of-plane : goal.shape_of-plane
-shape_of-plane c = omega (arith, c.requires.ready.of-plane, c.loop-x.invariant.1)
-
-pub shape_of-depth : goal.shape_of-depth
-shape_of-depth c = omega (arith, c.requires.ready.of-depth, c.loop-x.invariant.2)
 
 pub returns : goal.returns
 returns c = let g = c.requires.ready in

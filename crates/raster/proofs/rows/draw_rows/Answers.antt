@@ -13,12 +13,6 @@ draw_row-requires c = let v = c.loop-y.invariant in
     let g = c.requires in
     record { ready = record { of-plane = v.1; of-depth = v.2; of_right = g.of_right; of_bottom = g.of_bottom; stored = g.stored }; top_le_y = (v.0, c.loop-y-test.true) }
 
-pub overflow_step-y : goal.overflow_step-y
-overflow_step-y c = omega (arith, c.loop-y-test.true, c.requires.of_bottom)
-
-pub loop-y-smaller : goal.loop-y-smaller
-loop-y-smaller c = omega arith
-
 pub loop-y-preserved : goal.loop-y-preserved
 loop-y-preserved c = let call = c.draw_row in
     let v = c.loop-y.invariant in
@@ -29,12 +23,6 @@ loop-y-preserved c = let call = c.draw_row in
       omega (arith, call.auto.depth, v.2),
       drawn_next v.3 call.ensures (omega arith) (omega arith) (omega arith) (omega arith) (omega (arith, g.of-depth)),
     )
-
-pub shape_of-plane : goal.shape_of-plane
-shape_of-plane c = omega (arith, c.requires.of-plane, c.loop-y.invariant.1)
-
-pub shape_of-depth : goal.shape_of-depth
-shape_of-depth c = omega (arith, c.requires.of-depth, c.loop-y.invariant.2)
 
 pub returns : goal.returns
 returns c = let y = c.loop-y.y in

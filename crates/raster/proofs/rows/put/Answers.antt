@@ -4,10 +4,10 @@ use Rattle.laws.proofs.Cells.{range_skip, range_swap}
 use Rattle.raster.specs.Raster.{inked}
 use Rattle.raster.proofs.rows.put.Goals as goal
 
-pub returns-in-Blank : goal.returns-in-Blank
+pub returns-in_default : goal.returns-in_default
 unfolding inked
-returns-in-Blank c = range_skip 0 _ _ _ _ (λ j p q. rw c.in-Blank.is)
+returns-in_default c = range_skip 0 _ _ _ _ (λ j p q. rw c.in_default.is)
 
-pub returns-in-Of : goal.returns-in-Of
+pub returns-in-Some : goal.returns-in-Some
 unfolding inked
-returns-in-Of c = c.write_pixel.ensures ∙ range_swap 0 _ _ _ _ _ (λ j p q. rw c.in-Of.is)
+returns-in-Some c = c.write_pixel.ensures ∙ range_swap 0 _ _ _ _ _ (λ j p q. rw c.in-Some.is)

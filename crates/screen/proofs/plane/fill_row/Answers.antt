@@ -1,18 +1,16 @@
 -- Four pixels are written, and the law of the tile does the rest. Assumes nothing.
-use Prim.Native.Nat.{◌+◌, ◌*◌}
 use native.Mathlib.Omega.{arith}
-use Rattle.laws.proofs.Cells.{range_four}
+use Rattle.laws.proofs.Cells.{range_none, range_next, range_end}
 use Rattle.screen.proofs.Tile.{row_painted}
 use Rattle.screen.proofs.plane.fill_row.Goals as goal
 
+pub loop-x-init : goal.loop-x-init
+loop-x-init c = range_none 0 _ _ _ _ (omega arith)
+
+pub loop-x-preserved : goal.loop-x-preserved
+loop-x-preserved c = range_next 0 _ _ _ _ _ _ _ _ _ c.loop-x.invariant c.write_pixel.ensures (omega arith) (omega arith) (omega arith) (omega arith)
+
 pub returns : goal.returns
-returns c = let r = c.before.before in
-    let d = r.before.before.before.before in
-    let b = d.before.before.before.before in
-    let a = b.before.before.before.before in
-    let o = a.before.before.before.before in
-    let s = o.before.before.before in
-    let tile =
-    range_four 0 _ (s.args.y * 1280) _ _ _ _ _ _ _ _ (s.args.y * 1280 + 16) _ _ _ _ _ o.write_pixel.ensures a.write_pixel-2.ensures b.write_pixel-3.ensures d.write_pixel-4.ensures
-    (omega arith) (omega arith) (omega arith) (omega arith) (omega arith) (omega arith) (omega arith) (omega arith) (omega arith) in
-    row_painted _ _ _ _ s.requires.plane_len _ s.requires.y_lt_height tile r.repeat_before.ensures
+returns c =
+    let tile = range_end _ _ _ _ _ _ c.loop-x.invariant (omega arith) in
+    row_painted _ _ _ _ c.requires.plane_len _ c.requires.y_lt_height tile c.repeat_before.ensures

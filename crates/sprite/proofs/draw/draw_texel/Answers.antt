@@ -8,13 +8,13 @@ use Rattle.sprite.proofs.draw.draw_texel.Goals as goal
 use Rattle.sprite.proofs.draw.draw_texel.Goals.{After-half-texel}
 
 -- the texel is the one that belongs there
-is_texel : (c : After-half-texel) → nibbles_of c.half-texel.result ≡ texel_at c.args.texels.now (place_of c.args.s c.args.x c.args.y)
+is_texel : (c : After-half-texel) → nibbles_of c.half-texel.result ≡ texel_at c.args.cut.texels.now (place_of c.args.cut.sprite c.args.x c.args.y)
 unfolding texel_at
 is_texel c =
-    ap nibbles_of (c.half-texel.ensures.0 ∙ ap (half_of c.args.texels.now) c.requires.n_value)
+    ap nibbles_of (c.half-texel.ensures.0 ∙ ap (half_of c.args.cut.texels.now) c.requires.n_value)
 
 pub half-texel-requires : goal.half-texel-requires
-half-texel-requires c = rw c.requires.n_value (in_texture c.args.s c.requires.placed c.args.x c.args.y c.requires.at_pixel.under_x c.requires.at_pixel.under_y)
+half-texel-requires c = rw c.requires.n_value (in_texture c.args.cut.sprite c.args.cut.placed c.args.x c.args.y c.requires.at_pixel.under_x c.requires.at_pixel.under_y)
 
 pub write_texel-requires : goal.write_texel-requires
 write_texel-requires c = record { plane_len = c.requires.plane_len; x_lt_width = (c.requires.at_pixel.in_row, c.requires.at_pixel.on_screen); texel_bound = c.half-texel.ensures.1 }

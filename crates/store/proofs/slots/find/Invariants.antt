@@ -1,12 +1,8 @@
--- `store::slots::find` meets its contract. The invariant: what is to be found is what is found from index i on.
-use Prim.Native.Nat.{◌-◌, ◌≤◌}
+-- `store::slots::find` meets its contract. The invariant: what is to be found is what is found from the index on. Assumes nothing.
 use mathlib.Core.Path.{◌≡◌}
-use lib.ListN.{length, drop}
+use lib.ListN.{drop}
 use Rattle.store.specs.Slots.{slot_for}
 use Rattle.store.proofs.slots.find.Given as goal
 
-abbrev pub invariant-loop-i : goal.invariant-loop-i
-invariant-loop-i l = (l.i ≤ 64) × ((length l.slots ≡ 64) × (slot_for l.number l.slots ≡ slot_for l.number (drop l.i l.slots)))
-
-abbrev pub decreases-loop-i : goal.decreases-loop-i
-decreases-loop-i l = 64 - l.i
+abbrev pub invariant-loop-s : goal.invariant-loop-s
+invariant-loop-s l = slot_for l.number l.s-items ≡ slot_for l.number (drop l.s-index l.s-items)

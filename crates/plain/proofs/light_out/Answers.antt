@@ -1,5 +1,0 @@
--- By definition: the switch is what the callee ensures. Assumes nothing.
-use Rattle.plain.proofs.light_out.Goals as goal
-
-pub returns : goal.returns
-returns c = cc

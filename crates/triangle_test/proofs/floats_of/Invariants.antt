@@ -1,9 +1,0 @@
--- The cells, counted. Assumes nothing.
-use Prim.Native.Nat.{◌-◌, ◌≤◌}
-use Rattle.triangle_test.proofs.floats_of.Given as goal
-
-abbrev pub invariant-loop-k : goal.invariant-loop-k
-invariant-loop-k l = l.k ≤ 52
-
-abbrev pub decreases-loop-k : goal.decreases-loop-k
-decreases-loop-k l = 52 - l.k

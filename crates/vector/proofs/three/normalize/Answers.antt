@@ -1,7 +1,0 @@
--- The length is the root of the sum by what the calls ensure. Assumes nothing.
-use Rattle.vector.specs.Three.{normal_of}
-use Rattle.vector.proofs.three.normalize.Goals as goal
-
-pub returns : goal.returns
-unfolding normal_of
-returns c = cc
