@@ -9,6 +9,7 @@ ghost use Rattle.raster.specs.Ink.{Texture};
 
 use clip::vertex::ClipVertex;
 use raster::ink::Color;
+use screen::plane::{PIXELS, PLANE_BYTES};
 use vertex_c::record::vertex;
 
 // 0 if the triangle is drawn, else one more than the index of the word that is refused.
@@ -17,6 +18,8 @@ pub fn triangle_flat(plane: &mut [u8], depth: &mut [i32], p: &[u32]) -> u32
     requires depth_len { length depth.old ≡ pixels }
     requires p_len { length p.now ≡ 11 }
 {
+    let plane = <&mut [u8; PLANE_BYTES]>::try_from(plane).unwrap();
+    let depth = <&mut [i32; PIXELS]>::try_from(depth).unwrap();
     match flat::draw_flat_triangle(plane, depth, p) {
         Ok(()) => 0,
         Err(refused) => refused.index.wrapping_add(1),
