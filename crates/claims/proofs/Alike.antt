@@ -1,5 +1,7 @@
 -- Two ways of keeping uploads that answer alike give machines that are seen alike, word by word: the same settings, notes and command begun, and the same paints, so the same picture. Assumes nothing.
 use Prim.Native.Nat.{ℕ, suc, ◌+◌, ◌-◌, ◌/◌, ◌%◌, ◌≤◌, ◌<◌}
+use Rattle.verdict.specs.Verdict.{Verdict, refused}
+use Rattle.std.specs.Prelude.{Result, Ok, Err, ⊤}
 use mathlib.Core.Path.{◌≡◌, refl, ap, ◌∙◌}
 use mathlib.Core.Bool.{Bool, true, false, cond}
 use mathlib.Core.Option.{Option, none, some}
@@ -11,10 +13,8 @@ use borrow.Author.Tests.{eqb-true, eqb-false, ltb-false}
 use Rattle.verdict.specs.Verdict.{noted_of}
 use Rattle.verdict.specs.declared.Notes.{Notes}
 use Rattle.verdict.specs.declared.Reason.TheVariants.{ZeroOpcode, CountTooLarge}
-use Rattle.verdict.specs.declared.Verdict.{Verdict}
-use Rattle.verdict.specs.declared.Verdict.TheVariants.{Refused}
-use Rattle.store.specs.declared.Room.{Room}
-use Rattle.store.specs.declared.Room.TheVariants.{Fits, NoSlot, NoWords}
+use Rattle.store.specs.declared.NoRoom.{NoRoom}
+use Rattle.store.specs.declared.NoRoom.TheVariants.{NoSlot, NoWords}
 use Rattle.store.specs.Slots.{is_fits}
 use Rattle.state.specs.State.{most_payload}
 use Rattle.execute.specs.Commands.{Load, Told, told}
@@ -53,10 +53,10 @@ module _ {X Y : Type 0} {K : Keep X} {P : Keep Y} {Rel : X → Y → Type 0} (A 
   kept_same x y h none q = h
   kept_same x y h (some l) q = rw (A.room_same x y l h) (go (P.room y l) refl)
     where
-      go : (r : Room) → P.room y l ≡ r → Rel (cond (is_fits r) (K.put x l) x) (cond (is_fits r) (P.put y l) y)
-      go Fits e = A.put-kept x y l h (record { sides = q.sides; size = q.size }) e
-      go NoSlot e = h
-      go NoWords e = h
+      go : (r : Result ⊤ NoRoom) → P.room y l ≡ r → Rel (cond (is_fits r) (K.put x l) x) (cond (is_fits r) (P.put y l) y)
+      go (Ok u) e = A.put-kept x y l h (record { sides = q.sides; size = q.size }) e
+      go (Err NoSlot) e = h
+      go (Err NoWords) e = h
 
   noted_same : {n m : Notes} {o p : ℕ} {v u : Verdict} → n ≡ m → o ≡ p → v ≡ u → noted_of n o v ≡ noted_of m p u
   noted_same {n} {m} {o} {p} {v} {u} a b c = ap (λ (x : Notes). noted_of x o v) a ∙ ap (λ (x : ℕ). noted_of m x v) b ∙ ap (noted_of m p) c
@@ -101,8 +101,8 @@ module _ {X Y : Type 0} {K : Keep X} {P : Keep Y} {Rel : X → Y → Type 0} (A 
   unfolding header
   header_same c d op n s z =
       let nothing : length (P.payload d.box) ≡ 0 = s.idle z in
-      either (eqb op 0) (λ e. dropped_same c d op (Refused ZeroOpcode 0) s)
-      (λ e. either (ltb most_payload n) (λ f. dropped_same c d op (Refused CountTooLarge 0) s)
+      either (eqb op 0) (λ e. dropped_same c d op (refused ZeroOpcode 0) s)
+      (λ e. either (ltb most_payload n) (λ f. dropped_same c d op (refused CountTooLarge 0) s)
       (λ f. either (eqb n 0) (λ g. execute_same (begun K c op 0) (begun P d op 0) s.settings s.notes refl s.box (omega arith))
       (λ g. record {
         control = record { settings = s.settings; notes = s.notes; opcode = refl; wanted = refl; box = s.box; bound = omega (arith, ltb-false most_payload n f); idle = λ y. absurd (eqb-false n 0 g y) };

@@ -1,5 +1,7 @@
 -- What demand 3 says of the plain machine: a draw gets the last accepted upload under its number and is refused for want of one exactly if there is none; there is no room exactly by the store rule over the history. Assumes nothing.
 use Prim.Native.Nat.{ℕ, ◌+◌, ◌≤◌}
+use Rattle.verdict.specs.Verdict.{Verdict, done, refused}
+use Rattle.std.specs.Prelude.{Result, Ok, Err, ⊤}
 use mathlib.Core.Path.{◌≡◌, refl, sym, ap, ◌∙◌}
 use mathlib.Core.Bool.{Bool, true, false, cond, not, ◌&&◌, ◌||◌}
 use mathlib.Core.Option.{Option, none, some}
@@ -13,14 +15,12 @@ use borrow.Author.Tests.{eqb-true, eqb-false, le-leb}
 use Rattle.verdict.specs.Verdict.{number_of, bits_of}
 use Rattle.verdict.specs.declared.Reason.{Reason}
 use Rattle.verdict.specs.declared.Reason.TheVariants.{NotHeld}
-use Rattle.verdict.specs.declared.Verdict.{Verdict}
-use Rattle.verdict.specs.declared.Verdict.TheVariants.{Done, Refused}
 use Rattle.payload.specs.Words.{when_done, word_at}
 use Rattle.settings.specs.declared.Settings.{Settings}
 use Rattle.store.specs.declared.Kind.{Kind}
 use Rattle.store.specs.declared.Kind.TheVariants.{Texture, Model}
-use Rattle.store.specs.declared.Room.{Room}
-use Rattle.store.specs.declared.Room.TheVariants.{Fits, NoSlot, NoWords}
+use Rattle.store.specs.declared.NoRoom.{NoRoom}
+use Rattle.store.specs.declared.NoRoom.TheVariants.{NoSlot, NoWords}
 use Rattle.store.specs.Uploads.{Whole, Card, cards, find, holds, without, live, total, room, is_some}
 use Rattle.store.specs.Slots.{is_fits}
 use Rattle.store.proofs.Laws.{cards-without, live-without}
@@ -52,24 +52,24 @@ finds n (v ∷ h) = go (finds n h) (eqb v.number n) refl
 
 -- ---- the checks after the number never give the reason that it is not held
 abbrev pub Other : Verdict → Type 0
-Other v = (i : ℕ) → v ≡ Refused NotHeld i → ⊥
+Other v = (i : ℕ) → v ≡ refused NotHeld i → ⊥
 
-pub done-other : Other Done
+pub done-other : Other done
 done-other i e = let z : ◌≡◌ {A = ℕ} 0 1 = cc in omega arith
 
 -- another reason is another
-pub differs : {r : Reason} (j : ℕ) → (number_of r ≡ 7 → ⊥) → Other (Refused r j)
+pub differs : {r : Reason} (j : ℕ) → (number_of r ≡ 7 → ⊥) → Other (refused r j)
 differs j d i e = d (ap number e)
   where
     number : Verdict → ℕ
-    number Done = 7
-    number (Refused r k) = number_of r
+    number (Ok u) = 7
+    number (Err e) = number_of e.reason
 
-pub checked_other : (p : List ℕ) (normal : Bool) (m : List Float) (i : ℕ) → checked_verdict p normal m ≡ Refused NotHeld i → ⊥
+pub checked_other : (p : List ℕ) (normal : Bool) (m : List Float) (i : ℕ) → checked_verdict p normal m ≡ refused NotHeld i → ⊥
 checked_other p normal m = checked_so Other done-other (λ i. differs i (λ e. omega arith)) (λ i. differs i (λ e. omega arith)) (differs 0 (λ e. omega arith)) p normal m
 
 -- ---- 18 and 19, of right length and mode
-textured_verdict_lem : (p : List ℕ) (normal held : Bool) (m : List Float) → word_at p 1 ≤ 2 → textured_verdict p normal held m ≡ cond held (checked_verdict p normal m) (Refused NotHeld 0)
+textured_verdict_lem : (p : List ℕ) (normal held : Bool) (m : List Float) → word_at p 1 ≤ 2 → textured_verdict p normal held m ≡ cond held (checked_verdict p normal m) (refused NotHeld 0)
 unfolding textured_verdict
 textured_verdict_lem p normal true m h = rw (le-leb (word_at p 1) 2 h)
 textured_verdict_lem p normal false m h = rw (le-leb (word_at p 1) 2 h)
@@ -98,7 +98,7 @@ module _ (size : Kind → ℕ) (h : Past) (s : Settings) (p : List ℕ) (mode : 
   draw_19 n = rw (told_as_lem ((as_past size).look h) s 0x19 p command-of_19, painted-whole ((as_past size).look h) s (draw.Textured true) p n) (textured_draws true)
 
   -- ---- 1B: the model, and for each of its triangles the texture under that triangle's number
-  pub draw_1b_none : length p ≡ 2 → find (word_at p 0) h.models ≡ none → told ((as_past size).look h) s 0x1b p ≡ tells (Refused NotHeld 0) s []
+  pub draw_1b_none : length p ≡ 2 → find (word_at p 0) h.models ≡ none → told ((as_past size).look h) s 0x1b p ≡ tells (refused NotHeld 0) s []
   draw_1b_none n e = model_none ((as_past size).look h) s p n mode e
 
   pub draw_1b : (u : Whole) → length p ≡ 2 → find (word_at p 0) h.models ≡ some u
@@ -127,12 +127,12 @@ pub upload-ruled : (size : Kind → ℕ) (c : Control Past) (l : Load) → (told
 unfolding execute
 upload-ruled size c l e = rw e (go (ruled size c.box l))
   where
-    go : (r : Room)
+    go : (r : Result ⊤ NoRoom)
         → (bit_or c.notes.status (bits_of (room_verdict r)) ≡ cond (is_fits r) (bit_or c.notes.status 0) (bit_or c.notes.status 64))
         × ((k : Kind) → history ((as_past size).clear (cond (is_fits r) (accepted c.box l.kind l.whole) c.box)) k ≡ cond (is_fits r) (history (accepted c.box l.kind l.whole) k) (history c.box k))
-    go Fits = (refl, λ k. cleared (accepted c.box l.kind l.whole) k)
-    go NoSlot = (refl, λ k. cleared c.box k)
-    go NoWords = (refl, λ k. cleared c.box k)
+    go (Ok u) = (refl, λ k. cleared (accepted c.box l.kind l.whole) k)
+    go (Err NoSlot) = (refl, λ k. cleared c.box k)
+    go (Err NoWords) = (refl, λ k. cleared c.box k)
 
 -- and any other command leaves the history
 pub others_keep : (size : Kind → ℕ) (c : Control Past) → (told ((as_past size).look c.box) c.settings c.opcode c.box.payload).load ≡ none
@@ -159,7 +159,7 @@ others-low size c e =
 pub room_says : (size : ℕ) (cs : List Card) (n new : ℕ) → is_fits (room size cs n new) ≡ not ((not (holds n cs) && leb 64 (length cs)) || ltb size (total (without n cs) + new))
 room_says size cs n new = go (not (holds n cs) && leb 64 (length cs)) (ltb size (total (without n cs) + new))
   where
-    go : (a b : Bool) → is_fits (cond a NoSlot (cond b NoWords Fits)) ≡ not (a || b)
+    go : (a b : Bool) → is_fits (cond {A = Result ⊤ NoRoom} a (Err NoSlot) (cond b (Err NoWords) (Ok _))) ≡ not (a || b)
     go true b = refl
     go false true = refl
     go false false = refl

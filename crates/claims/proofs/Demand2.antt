@@ -1,5 +1,8 @@
 -- Demand 2: inside the domain, plane, both depths and status after each call are those of the original with the sprites of section 11; if no sprite is accepted, those of the original as it is (proofs/Sprites.antt). Word by word the plain machine of demand 3 is the original, since there every upload has room and every flat triangle is near. Assumes nothing.
 use Prim.Native.Nat.{ℕ, ◌-◌, ◌/◌, ◌%◌}
+use Rattle.verdict.specs.Verdict.{Verdict, done, refused}
+use Rattle.std.specs.Prelude.{Some, None, Ok, Err}
+use Rattle.std.specs.Prelude as std
 use mathlib.Core.Path.{◌≡◌, refl, sym, ap, ◌∙◌}
 use mathlib.Core.Bool.{Bool, true, false, cond, ◌&&◌}
 use mathlib.Core.Option.{Option, none, some}
@@ -13,20 +16,17 @@ use lib.ListN.{length}
 use borrow.Author.Tests.{eqb-true, eqb-false, eq-eqb, ne_eqb, le-leb}
 use Rattle.verdict.specs.Verdict.{bits_of}
 use Rattle.verdict.specs.declared.Reason.TheVariants.{ZeroOpcode, CountTooLarge}
-use Rattle.verdict.specs.declared.Verdict.{Verdict}
-use Rattle.verdict.specs.declared.Verdict.TheVariants.{Done, Refused}
 use Rattle.payload.specs.Words.{when_done}
 use Rattle.settings.specs.declared.Settings.{Settings}
 use Rattle.store.specs.declared.Kind.{Kind}
 use Rattle.store.specs.declared.Kind.TheVariants.{Texture, Model}
-use Rattle.store.specs.declared.Room.TheVariants.{Fits}
 use Rattle.store.specs.Uploads.{Whole, find}
 use Rattle.flat.specs.Words.{signed_at, in_reach, first_out, flat_verdict, tri_of}
 use Rattle.state.specs.State.{most_payload}
 use Rattle.execute.specs.Paints.{Picture, flat, paints_on}
 use Rattle.command.specs.declared.Draw.TheVariants as draw
 use Rattle.command.specs.declared.Command.{Command}
-use Rattle.command.specs.declared.Command.TheVariants.{Sets, Loads, Paints, Unknown}
+use Rattle.command.specs.declared.Command.TheVariants.{Sets, Loads, Paints}
 use Rattle.command.specs.Command.{command_of}
 use Rattle.execute.specs.Commands.{Look, Load, Told, tells, loading, texture_verdict, count_verdict, texture_in, model_in, flat_painted, told_by, told_as, told}
 use Rattle.execute.proofs.Told.{told_as_lem, command-of_12}
@@ -48,12 +48,12 @@ use Rattle.claims.proofs.Demand3.{demand3, reset_again}
 abbrev corners : List ℕ
 corners = 0 ∷ 1 ∷ 3 ∷ 4 ∷ 6 ∷ 7 ∷ []
 
-near-done : (p ks : List ℕ) → Near p ks → first_out p ks ≡ Done
+near-done : (p ks : List ℕ) → Near p ks → first_out p ks ≡ done
 unfolding in_reach
 near-done p [] h = refl
 near-done p (k ∷ ks) h = rw (le-leb (nat_abs (signed_at p k)) 8192 h.0) (near-done p ks h.1)
 
-flat-told : (held : Look) (s : Settings) (p : List ℕ) → length p ≡ 11 → Near p corners → told held s 0x12 p ≡ tells Done s (flat (tri_of p) ∷ [])
+flat-told : (held : Look) (s : Settings) (p : List ℕ) → length p ≡ 11 → Near p corners → told held s 0x12 p ≡ tells done s (flat (tri_of p) ∷ [])
 unfolding flat_painted flat_verdict
 flat-told held s p n h = told_as_lem held s 0x12 p command-of_12 ∙ ap (told_by s) (painted-whole held s draw.Flat p n) ∙ rw (near-done p corners h)
 
@@ -62,7 +62,7 @@ arm-told : (held : Look) (s : Settings) (op : ℕ) (p : List ℕ) → (op ≡ 0x
 unfolding arm
 arm-told held s op p h = ten (eqb op 0x10) refl
   where
-    go : (a : Bool) → eqb op 0x12 ≡ a → (b : Bool) → eqb (length p) 11 ≡ b → cond (a && b) (tells Done s (flat (tri_of p) ∷ [])) (told held s op p) ≡ told held s op p
+    go : (a : Bool) → eqb op 0x12 ≡ a → (b : Bool) → eqb (length p) 11 ≡ b → cond (a && b) (tells done s (flat (tri_of p) ∷ [])) (told held s op p) ≡ told held s op p
     go true e true f =
         let o : op ≡ 0x12 = eqb-true op 0x12 e in
         let n : length p ≡ 11 = eqb-true (length p) 11 f in
@@ -71,39 +71,39 @@ arm-told held s op p h = ten (eqb op 0x10) refl
     go false e b f = refl
 
     ten : (a : Bool) → eqb op 0x10 ≡ a
-        → cond a (told held s 0x10 p) (cond (eqb op 0x12 && eqb (length p) 11) (tells Done s (flat (tri_of p) ∷ [])) (told held s op p)) ≡ told held s op p
+        → cond a (told held s 0x10 p) (cond (eqb op 0x12 && eqb (length p) 11) (tells done s (flat (tri_of p) ∷ [])) (told held s op p)) ≡ told held s op p
     ten true e = rw (eqb-true op 0x10 e)
     ten false e = go (eqb op 0x12) refl (eqb (length p) 11) refl
 
 -- what is to be kept passed its checks
 abbrev Passes : Told → Type 0
-Passes t = (l : Load) → t.load ≡ some l → t.verdict ≡ Done
+Passes t = (l : Load) → t.load ≡ some l → t.verdict ≡ done
 
 loading-done : (v : Verdict) (s : Settings) (m : Load) → Passes (loading v s m)
-loading-done Done s m l e = refl
-loading-done (Refused r i) s m l e = let z : ◌≡◌ {A = ℕ} 0 1 = cc in absurd (omega arith)
+loading-done (Ok u) s m l e = refl
+loading-done (Err why) s m l e = let z : ◌≡◌ {A = ℕ} 0 1 = cc in absurd (omega arith)
 
 nothing : {A : Type 0} {a b : A} {l : Load} → none ≡ some l → a ≡ b
 nothing e = let z : ◌≡◌ {A = ℕ} 0 1 = cc in absurd (omega arith)
 
-as_done : (held : Look) (s : Settings) (c : Command) (p : List ℕ) → Passes (told_as held s c p)
-as_done held s (Sets x) p = λ l e. nothing e
-as_done held s (Loads Texture) p = loading-done (texture_verdict p) s (texture_in p)
-as_done held s (Loads Model) p = loading-done (count_verdict p) s (model_in p)
-as_done held s (Paints d) p = λ l e. nothing e
-as_done held s Unknown p = λ l e. nothing e
+as_done : (held : Look) (s : Settings) (c : std.Option Command) (p : List ℕ) → Passes (told_as held s c p)
+as_done held s (Some (Sets x)) p = λ l e. nothing e
+as_done held s (Some (Loads Texture)) p = loading-done (texture_verdict p) s (texture_in p)
+as_done held s (Some (Loads Model)) p = loading-done (count_verdict p) s (model_in p)
+as_done held s (Some (Paints d)) p = λ l e. nothing e
+as_done held s None p = λ l e. nothing e
 
 load-done : (held : Look) (s : Settings) (op : ℕ) (p : List ℕ) → Passes (told held s op p)
 load-done held s op p = rw (told_as_lem held s op p refl) (as_done held s (command_of op) p)
 
 -- a command without words has nothing to be kept
-as_empty : (held : Look) (s : Settings) (c : Command) → (told_as held s c []).load ≡ none
+as_empty : (held : Look) (s : Settings) (c : std.Option Command) → (told_as held s c []).load ≡ none
 unfolding texture_verdict count_verdict
-as_empty held s (Sets x) = refl
-as_empty held s (Loads Texture) = refl
-as_empty held s (Loads Model) = refl
-as_empty held s (Paints d) = refl
-as_empty held s Unknown = refl
+as_empty held s (Some (Sets x)) = refl
+as_empty held s (Some (Loads Texture)) = refl
+as_empty held s (Some (Loads Model)) = refl
+as_empty held s (Some (Paints d)) = refl
+as_empty held s None = refl
 
 empty_load : (held : Look) (s : Settings) (op : ℕ) → (told held s op []).load ≡ none
 empty_load held s op = rw (told_as_lem held s op [] refl) (as_empty held s (command_of op))
@@ -116,8 +116,8 @@ third : (held : Look) (s : Settings) (op : ℕ) (p : List ℕ) → Third (told h
 third held s op p = told_so Third refl (λ i. refl) (λ i. refl) refl refl refl refl held s op p
 
 third-status : (v : Verdict) (s : ℕ) → Third v → bit_or s (bits_of v) ≡ when_done v s (bit_or s 8)
-third-status Done s h = or_zero_r s
-third-status (Refused r i) s h = ap (bit_or s) h
+third-status (Ok u) s h = or_zero_r s
+third-status (Err e) s h = ap (bit_or s) h
 
 -- ---- uploads: a history's newest under a number is what a map holds there
 look-cleared : (size : Kind → ℕ) (h : Past) (k : Kind) → history ((as_past size).clear h) k ≡ history h k
@@ -131,13 +131,13 @@ look-put h Model u Texture n = refl
 look-put h Model u Model n = refl
 
 module _ (size : Kind → ℕ) where
-  kept_same : (h : Past) (o : Option Load) → ((l : Load) → o ≡ some l → (as_past size).room h l ≡ Fits)
+  kept_same : (h : Past) (o : Option Load) → ((l : Load) → o ≡ some l → (as_past size).room h l ≡ Ok _)
       → (as_past size).look ((as_past size).clear (kept_of (as_past size) h o)) ≡ kept ((as_past size).look h) o
   kept_same h none fits = λ i k n. ap (find n) (look-cleared size h k) i
   kept_same h (some l) fits =
       rw (fits l refl) (λ i k n. (ap (find n) (look-cleared size (accepted h l.kind l.whole) k) ∙ look-put h l.kind l.whole k n) i)
 
-  status_same : (h : Past) (s : ℕ) (t : Told) → Third t.verdict → Passes t → ((l : Load) → t.load ≡ some l → (as_past size).room h l ≡ Fits)
+  status_same : (h : Past) (s : ℕ) (t : Told) → Third t.verdict → Passes t → ((l : Load) → t.load ≡ some l → (as_past size).room h l ≡ Ok _)
       → bit_or s (bits_of (verdict_of (as_past size) h t t.load)) ≡ when_done t.verdict s (bit_or s 8)
   status_same h s t low passes fits = go t.load refl
     where
@@ -219,8 +219,8 @@ module _ (size : Kind → ℕ) where
         let op : ℕ = w / 16777216 in
         let n : ℕ = w % 16777216 in
         rw (eq-eqb m.control.wanted 0 z)
-        (by_test (eqb op 0) (λ e. dropped_agrees op (Refused ZeroOpcode 0) 4 refl (idle z p x))
-        (λ e. by_test (ltb most_payload n) (λ f. dropped_agrees op (Refused CountTooLarge 0) 8 refl (idle z p x))
+        (by_test (eqb op 0) (λ e. dropped_agrees op (refused ZeroOpcode 0) 4 refl (idle z p x))
+        (λ e. by_test (ltb most_payload n) (λ f. dropped_agrees op (refused CountTooLarge 0) 8 refl (idle z p x))
         (λ f. by_test (eqb n 0) (λ g. execute_agrees op 0 m.control.box (op ∷ []) n refl (rw p) (empty_within _ p))
         (λ g. record { goes = record { picture = a.picture; settings = a.settings; uploads = a.uploads; status = a.status; begun = busy (eqb-false n 0 g) refl (rw p) } }))))
 

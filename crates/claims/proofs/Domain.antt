@@ -1,5 +1,7 @@
 -- The domain of demand 2 is neither empty nor everything: an upload, a clear and a flat triangle are in it exactly if the store has the upload's one word and the triangle's coordinate is from -8192 to 8192. Assumes nothing.
 use Prim.Native.Nat.{ℕ, ◌≤◌, ◌<◌}
+use Rattle.std.specs.Prelude.{Result, Ok, Err, ⊤}
+use Rattle.store.specs.declared.NoRoom.{NoRoom}
 use mathlib.Core.Path.{◌≡◌, refl}
 use mathlib.Core.Bool.{Bool, true, false, cond}
 use mathlib.Core.Option.{none, some}
@@ -12,7 +14,7 @@ use mir.Val.{to_z}
 use borrow.Author.Tests.{eqb-false, ltb-true, ltb-false, lt-ltb, le-ltb}
 use Rattle.store.specs.declared.Kind.{Kind}
 use Rattle.store.specs.declared.Kind.TheVariants.{Texture}
-use Rattle.store.specs.declared.Room.TheVariants.{Fits, NoWords}
+use Rattle.store.specs.declared.NoRoom.TheVariants.{NoWords}
 use Rattle.execute.specs.Control as control
 use Rattle.command.specs.Command.{command_of}
 use Rattle.execute.specs.Commands.{Load, texture_in, told, texture_verdict, painted_by, clear_painted, flat_painted}
@@ -32,10 +34,10 @@ near-only size x d = ((d.1.1.1.1.1.1.1.1.1.1.1.1.1.1.1.1.1.1.1.1.1.0 refl).near 
 abbrev one : Load
 one = texture_in (7 ∷ 1 ∷ 1 ∷ 0xf0a5_1234 ∷ [])
 
-fits_one : (size : ℕ) → cond (ltb size 1) NoWords Fits ≡ Fits → 1 ≤ size
+fits_one : (size : ℕ) → ◌≡◌ {A = Result ⊤ NoRoom} (cond (ltb size 1) (Err NoWords) (Ok _)) (Ok _) → 1 ≤ size
 fits_one size e = go (ltb size 1) refl e
   where
-    go : (b : Bool) → ltb size 1 ≡ b → cond b NoWords Fits ≡ Fits → 1 ≤ size
+    go : (b : Bool) → ltb size 1 ≡ b → ◌≡◌ {A = Result ⊤ NoRoom} (cond b (Err NoWords) (Ok _)) (Ok _) → 1 ≤ size
     go false f e = ltb-false size 1 f
     go true f e = let z : ◌≡◌ {A = ℕ} 0 1 = cc in absurd (omega arith)
 

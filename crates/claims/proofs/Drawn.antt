@@ -1,5 +1,7 @@
 -- A draw shows the last accepted upload, on the screen: two 1 × 1 textures under one number and a triangle over the lower left half. antt computes its corners, its set-up and one pixel. Assumes nothing.
 use Prim.Native.Nat.{ℕ, ◌/◌, ◌≤◌}
+use Rattle.verdict.specs.Verdict.{done}
+use Rattle.std.specs.Prelude.{Some}
 use mathlib.Core.Path.{◌≡◌, refl, ◌∙◌}
 use mathlib.Core.Bool.{true, false}
 use mathlib.Core.Option.{some}
@@ -17,7 +19,6 @@ use Rattle.clip.specs.Polygons as clip
 use Rattle.clip.specs.Vertices.{full, distance_of}
 use Rattle.clip.proofs.Whole.{inside-drawn}
 use Rattle.face.specs.declared.Face.{Face}
-use Rattle.face.specs.declared.Setup.TheVariants.{Drawn}
 use Rattle.face.specs.Face.{corner, point_of, edge_of, min_of, past_of, bounds_of, face_of, setup_of}
 use Rattle.face.specs.Pixel.{within, weight0, weight1, weight2, inside_of, covers, bary_of, mix_of, depth_at, passes_of}
 use Rattle.face.specs.declared.Corners.{Corners}
@@ -32,7 +33,6 @@ use Rattle.decide.specs.Verdicts as verdicts
 use Rattle.decide.specs.Verdicts.{finite4, plain_vertex, textured_by, checked_verdict}
 use Rattle.lit.specs.Lit.{textured_lit}
 use Rattle.draw.specs.Draws.{flat_color, textured_corners, textured_brush, held_strokes, textured_strokes}
-use Rattle.verdict.specs.declared.Verdict.TheVariants.{Done}
 use Rattle.payload.specs.Words.{finite_from}
 use Rattle.settings.specs.Settings as settings
 use Rattle.store.specs.Slots.{whole_of}
@@ -48,7 +48,7 @@ use Rattle.claims.specs.Thirteen.{InStore}
 use Rattle.claims.specs.Idle.{upload, triangle, draw, alpha_of}
 use Rattle.claims.proofs.Table.{given, from, by_plain}
 
-checked : checked_verdict triangle false (settings.fresh).matrices ≡ Done
+checked : checked_verdict triangle false (settings.fresh).matrices ≡ done
 unfolding checked_verdict textured_by normal_matrix_of verdicts.plain_of plain_vertex finite4 finite_from corners_of corners_by corner_of view_of projected_of of_bits add mul
 checked = refl
 
@@ -71,7 +71,7 @@ alone = inside-drawn full tri three inside
 abbrev face : Face
 face = face_of true (corner tri 0).position (corner tri 1).position (corner tri 2).position
 
-set_up : setup_of true tri ≡ Drawn face
+set_up : setup_of true tri ≡ Some face
 unfolding setup_of face_of edge_of point_of textured_corners textured_lit corners_of corners_by corner_of view_of projected_of of_bits add mul sub div le
 set_up = refl
 

@@ -1,5 +1,7 @@
 -- The fourth idle version behaves as `FirstKept` and `FirstShown` say, so that what is refuted of them is refuted of it: the whole history, and the machine's slots, each with uploads under a held number pretended. Assumes nothing.
 use Prim.Native.Nat.{ℕ}
+use Rattle.verdict.specs.Verdict.{done}
+use Rattle.std.specs.Prelude.{Ok}
 use mathlib.Core.Path.{◌≡◌, refl, sym, ap, ◌∙◌}
 use mathlib.Core.Bool.{Bool, true, false, cond}
 use mathlib.Core.Option.{none, some}
@@ -14,7 +16,6 @@ use Rattle.verdict.specs.declared.Notes.{Notes}
 use Rattle.settings.specs.declared.Settings.{Settings}
 use Rattle.store.specs.declared.Kind.{Kind}
 use Rattle.store.specs.declared.Kind.TheVariants.{Texture, Model}
-use Rattle.store.specs.declared.Room.TheVariants.{Fits}
 use Rattle.store.specs.Uploads.{Whole, is_some, find}
 use Rattle.state.specs.declared.State.{State}
 use Rattle.state.specs.State.{well_formed}
@@ -81,12 +82,12 @@ module _ (size : Kind → ℕ) where
       }
 
   module _ (s : Settings) (notes : Notes) (o : ℕ) (t m : List Whole) (p : Picture) (n a : ℕ) where
-    once_left : find n t ≡ none → (as_past size).room (past t m []) (texture_in (n ∷ 1 ∷ 1 ∷ a ∷ [])) ≡ Fits
+    once_left : find n t ≡ none → (as_past size).room (past t m []) (texture_in (n ∷ 1 ∷ 1 ∷ a ∷ [])) ≡ Ok _
         → run P (waiting s notes o t m p) (upload n a) ≡ waiting s notes 0 ((texture_in (n ∷ 1 ∷ 1 ∷ a ∷ [])).whole ∷ t) m p
     unfolding run word header gather execute told command_of texture_verdict paints_on
     once_left free one = rw (one, free, or_zero_r notes.status)
 
-    twice_left : (b : ℕ) → (as_past size).room (past ((texture_in (n ∷ 1 ∷ 1 ∷ a ∷ [])).whole ∷ t) m []) (texture_in (n ∷ 1 ∷ 1 ∷ b ∷ [])) ≡ Fits
+    twice_left : (b : ℕ) → (as_past size).room (past ((texture_in (n ∷ 1 ∷ 1 ∷ a ∷ [])).whole ∷ t) m []) (texture_in (n ∷ 1 ∷ 1 ∷ b ∷ [])) ≡ Ok _
         → run P (waiting s notes 0 ((texture_in (n ∷ 1 ∷ 1 ∷ a ∷ [])).whole ∷ t) m p) (upload n b) ≡ waiting s notes 0 ((texture_in (n ∷ 1 ∷ 1 ∷ a ∷ [])).whole ∷ t) m p
     unfolding run word header gather execute told command_of texture_verdict paints_on
     twice_left b two = rw (two, eq-eqb n n refl, or_zero_r notes.status)
@@ -157,7 +158,7 @@ module _ (P : List ℕ) (D : List ℤ) (F : List Float) (C T M : List ℕ) (done
     free : find n N.control.box.textures ≡ none
     free = sym (ap (λ (l : Look). l Texture n) ((alike size).look_same _ _ (shown ws).control.box)) ∙ ready.blank.none-held Texture n
 
-    room : (vs : List ℕ) (w : ℕ) → HasRoom (fed_by pretender m vs) n w → (as_past size).room (run Q plain_start vs).control.box (texture_in (n ∷ 1 ∷ 1 ∷ w ∷ [])) ≡ Fits
+    room : (vs : List ℕ) (w : ℕ) → HasRoom (fed_by pretender m vs) n w → (as_past size).room (run Q plain_start vs).control.box (texture_in (n ∷ 1 ∷ 1 ∷ w ∷ [])) ≡ Ok _
     room vs w h = sym ((alike size).room_same _ _ (texture_in (n ∷ 1 ∷ 1 ∷ w ∷ [])) (shown vs).control.box) ∙ h
 
     first : run Q N (upload n a) ≡ after

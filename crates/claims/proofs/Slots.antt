@@ -1,5 +1,6 @@
 -- Slots over lent words with a command area answer as the whole history does: `Alike as_box (as_past size)`. Assumes nothing.
 use Prim.Native.Nat.{ℕ, ◌<◌}
+use Rattle.std.specs.Prelude.{Ok}
 use mathlib.Core.Path.{◌≡◌, refl, ap, ◌∙◌}
 use mathlib.Core.List.{List, [], ◌∷◌, ◌++◌}
 use native.Mathlib.Omega.{arith}
@@ -8,7 +9,6 @@ use lib.ListN.{length, take, length-append, length-set}
 use lib.Seq.{take-suc-set}
 use Rattle.store.specs.declared.Kind.{Kind}
 use Rattle.store.specs.declared.Kind.TheVariants.{Texture, Model}
-use Rattle.store.specs.declared.Room.TheVariants.{Fits}
 use Rattle.store.specs.Uploads.{Whole, card, cards, live, room}
 use Rattle.store.proofs.Held.{Sized}
 use Rattle.store.proofs.Kept.{Keeps, keeps_look, keeps_room, keeps_put}
@@ -34,7 +34,7 @@ module _ {size : Kind → ℕ} {b : Box} {h : Past} (e : Kept size b h) where
   room_at Texture u = keeps_room e.textures u
   room_at Model u = keeps_room e.models u
 
-  put-at : (k : Kind) (u : Whole) → Sized k (card u) → room (size k) (cards (live (history h k))) u.number (length u.words) ≡ Fits
+  put-at : (k : Kind) (u : Whole) → Sized k (card u) → room (size k) (cards (live (history h k))) u.number (length u.words) ≡ Ok _
       → Kept size (put_box b k u) (accepted h k u)
   put-at Texture u s f = record { textures = keeps_put e.textures u s f; models = e.models; area = e.area; gathered = e.gathered; payload = e.payload }
   put-at Model u s f = record { textures = e.textures; models = keeps_put e.models u s f; area = e.area; gathered = e.gathered; payload = e.payload }

@@ -1,5 +1,7 @@
 -- Sprites in the demands. Demand 3: a sprite gets the last accepted texture under its number. Demand 2: if no sprite is accepted, the original as it is gives the same as the original with sprites. Assumes nothing.
 use Prim.Native.Nat.{ℕ, ◌-◌, ◌/◌, ◌%◌, ◌≤◌}
+use Rattle.verdict.specs.Verdict.{Verdict, done}
+use Rattle.std.specs.Prelude.{Ok, Err}
 use mathlib.Core.Path.{◌≡◌, refl, sym, ap, ◌∙◌}
 use mathlib.Core.Bool.{Bool, true, false, cond, ◌&&◌}
 use mathlib.Core.Option.{Option, none, some}
@@ -10,8 +12,6 @@ use lib.IntN.{ℤ}
 use lib.Ieee.{Float}
 use lib.ListN.{length, drop, get_or}
 use borrow.Author.Tests.{eqb-true, le-ltb}
-use Rattle.verdict.specs.declared.Verdict.{Verdict}
-use Rattle.verdict.specs.declared.Verdict.TheVariants.{Done, Refused}
 use Rattle.payload.specs.Words.{word_at}
 use Rattle.settings.specs.declared.Settings.{Settings}
 use Rattle.store.specs.declared.Kind.{Kind}
@@ -71,7 +71,7 @@ unfolding paint_on
 sprite_blind s texels a b e = ap (sprite_plane s texels) e
 
 -- ---- demand 2: a command 10 that is refused is refused by the original too
-execute_same : (v : Vpu) → (get_or v.command 0 0 ≡ 0x10 → (told v.uploads v.settings 0x10 (drop 1 v.command)).verdict ≡ Done → ⊥) → execute refuses v ≡ execute copies v
+execute_same : (v : Vpu) → (get_or v.command 0 0 ≡ 0x10 → (told v.uploads v.settings 0x10 (drop 1 v.command)).verdict ≡ done → ⊥) → execute refuses v ≡ execute copies v
 unfolding execute arm
 execute_same v h = go (eqb (get_or v.command 0 0) 0x10) refl
   where
@@ -79,19 +79,19 @@ execute_same v h = go (eqb (get_or v.command 0 0) 0x10) refl
     p = drop 1 v.command
 
     others : Told
-    others = cond (eqb (get_or v.command 0 0) 0x12 && eqb (length p) 11) (tells Done v.settings (paints.flat (tri_of p) ∷ [])) (told v.uploads v.settings (get_or v.command 0 0) p)
+    others = cond (eqb (get_or v.command 0 0) 0x12 && eqb (length p) 11) (tells done v.settings (paints.flat (tri_of p) ∷ [])) (told v.uploads v.settings (get_or v.command 0 0) p)
 
     by : (w : Verdict) → (told v.uploads v.settings 0x10 p).verdict ≡ w → get_or v.command 0 0 ≡ 0x10
         → ended v (tells unknown v.settings []) ≡ ended v (told v.uploads v.settings 0x10 p)
-    by Done e o = absurd (h o e)
-    by (Refused r i) e o = rw (sprite-refused v.uploads v.settings p e)
+    by (Ok u) e o = absurd (h o e)
+    by (Err why) e o = rw (sprite-refused v.uploads v.settings p {r = why.reason} {i = why.index} e)
 
     go : (b : Bool) → eqb (get_or v.command 0 0) 0x10 ≡ b
         → ended v (cond b (tells unknown v.settings []) others) ≡ ended v (cond b (told v.uploads v.settings 0x10 p) others)
     go true e = by (told v.uploads v.settings 0x10 p).verdict refl (eqb-true (get_or v.command 0 0) 0x10 e)
     go false e = refl
 
-await_same : (v : Vpu) (command : List ℕ) (left : ℕ) → (left ≡ 0 → get_or command 0 0 ≡ 0x10 → (told v.uploads v.settings 0x10 (drop 1 command)).verdict ≡ Done → ⊥)
+await_same : (v : Vpu) (command : List ℕ) (left : ℕ) → (left ≡ 0 → get_or command 0 0 ≡ 0x10 → (told v.uploads v.settings 0x10 (drop 1 command)).verdict ≡ done → ⊥)
     → await refuses v command left ≡ await copies v command left
 unfolding await
 await_same v command left h = go (eqb left 0) refl
@@ -101,9 +101,9 @@ await_same v command left h = go (eqb left 0) refl
     go false e = refl
 
 -- without words it is always refused
-never_empty : (v : Vpu) → (told v.uploads v.settings 0x10 []).verdict ≡ Done → ⊥
+never_empty : (v : Vpu) → (told v.uploads v.settings 0x10 []).verdict ≡ done → ⊥
 never_empty v e =
-    let w : wrong_length ≡ Done = sym (ap (λ (t : Told). t.verdict) (sprite_short v.uploads v.settings [] (λ n. omega arith))) ∙ e in
+    let w : wrong_length ≡ done = sym (ap (λ (t : Told). t.verdict) (sprite_short v.uploads v.settings [] (λ n. omega arith))) ∙ e in
     let z : ◌≡◌ {A = ℕ} 0 1 = cc in
     omega arith
 

@@ -1,5 +1,7 @@
 -- Status: no command clears a bit, and a feed keeps all bits but 2, 3 and 6 as given: what changes is or-ed with a verdict's bit, word by word. Over any way of keeping uploads. Assumes nothing.
 use Prim.Native.Nat.{ℕ, zero, suc, ◌/◌, ◌%◌, ◌^◌, ◌≤◌, max}
+use Rattle.verdict.specs.Verdict.{Verdict, done, refused}
+use Rattle.std.specs.Prelude.{Ok, Err}
 use mathlib.Core.Path.{◌≡◌, refl, sym, ap, ◌∙◌}
 use mathlib.Core.Bool.{Bool, true, false, cond}
 use mathlib.Core.List.{List, [], ◌∷◌}
@@ -11,10 +13,9 @@ use lib.IntN.{ℤ}
 use lib.Ieee.{Float}
 use lib.ListN.{length}
 use Rattle.laws.proofs.Bits.{bit, bit-bit_or}
-use Rattle.verdict.specs.Verdict.{bits_of}
+use Rattle.verdict.specs.Verdict.{number_of, bit_for, bits_of}
+use Rattle.verdict.specs.declared.Reason.{Reason}
 use Rattle.verdict.specs.declared.Reason.TheVariants.{ZeroOpcode, CountTooLarge, UnknownOpcode, WrongLength, OutOfRange, NotFinite, NotHeld, NotInvertible, NoSlot, NoWords}
-use Rattle.verdict.specs.declared.Verdict.{Verdict}
-use Rattle.verdict.specs.declared.Verdict.TheVariants.{Done, Refused}
 use Rattle.state.specs.declared.State.{State}
 use Rattle.state.specs.State.{most_payload, well_formed}
 use Rattle.execute.specs.Control.{Keep, Control, Step, Seen, execute}
@@ -29,7 +30,7 @@ pub record Sets (before after : ℕ) : Type 0 where
   pub is : after ≡ bit_or before (bits_of verdict)
 
 same : (s : ℕ) → Sets s s
-same s = record { verdict = Done; is = sym (or_zero_r s) }
+same s = record { verdict = done; is = sym (or_zero_r s) }
 
 either : {X : Type 0} (s : ℕ) (b : Bool) (x y : Step X) → Sets s x.control.notes.status → Sets s y.control.notes.status → Sets s (cond b x y).control.notes.status
 either s true x y p q = p
@@ -44,8 +45,8 @@ module _ {X : Type 0} (K : Keep X) where
   unfolding word header gather
   word_sets c w =
       either c.notes.status (eqb c.wanted 0) _ _
-      (either c.notes.status (eqb (w / 16777216) 0) (dropped K c (w / 16777216) (Refused ZeroOpcode 0)) _ (record { verdict = Refused ZeroOpcode 0; is = refl })
-      (either c.notes.status (ltb most_payload (w % 16777216)) (dropped K c (w / 16777216) (Refused CountTooLarge 0)) _ (record { verdict = Refused CountTooLarge 0; is = refl })
+      (either c.notes.status (eqb (w / 16777216) 0) (dropped K c (w / 16777216) (refused ZeroOpcode 0)) _ (record { verdict = refused ZeroOpcode 0; is = refl })
+      (either c.notes.status (ltb most_payload (w % 16777216)) (dropped K c (w / 16777216) (refused CountTooLarge 0)) _ (record { verdict = refused CountTooLarge 0; is = refl })
       (either c.notes.status (eqb (w % 16777216) 0) (execute K (begun K c (w / 16777216) 0)) (still K (begun K c (w / 16777216) (w % 16777216))) (execute_sets (begun K c (w / 16777216) 0)) (same c.notes.status))))
       (either c.notes.status (eqb c.wanted 1) (execute K (taken K c w)) (still K (taken K c w)) (execute_sets (taken K c w)) (same c.notes.status))
 
@@ -74,18 +75,21 @@ six (suc (suc zero)) h = refl
 six (suc (suc (suc k))) h = bit_half (suc (suc k)) 64 ∙ bit_half (suc k) 32 ∙ bit_half k 16 ∙ three k (λ e. h (ap (λ (n : ℕ). suc (suc (suc n))) e))
 
 module _ (k : ℕ) (a : k ≡ 2 → ⊥) (b : k ≡ 3 → ⊥) (c : k ≡ 6 → ⊥) where
+  reason_bit : (r : Reason) → bit k (bit_for (number_of r)) ≡ 0
+  reason_bit ZeroOpcode = two k a
+  reason_bit CountTooLarge = three k b
+  reason_bit UnknownOpcode = three k b
+  reason_bit WrongLength = three k b
+  reason_bit OutOfRange = three k b
+  reason_bit NotFinite = three k b
+  reason_bit NotHeld = three k b
+  reason_bit NotInvertible = three k b
+  reason_bit NoSlot = six k c
+  reason_bit NoWords = six k c
+
   verdict_bit : (v : Verdict) → bit k (bits_of v) ≡ 0
-  verdict_bit Done = bit_none k
-  verdict_bit (Refused ZeroOpcode i) = two k a
-  verdict_bit (Refused CountTooLarge i) = three k b
-  verdict_bit (Refused UnknownOpcode i) = three k b
-  verdict_bit (Refused WrongLength i) = three k b
-  verdict_bit (Refused OutOfRange i) = three k b
-  verdict_bit (Refused NotFinite i) = three k b
-  verdict_bit (Refused NotHeld i) = three k b
-  verdict_bit (Refused NotInvertible i) = three k b
-  verdict_bit (Refused NoSlot i) = six k c
-  verdict_bit (Refused NoWords i) = six k c
+  verdict_bit (Ok u) = bit_none k
+  verdict_bit (Err e) = reason_bit e.reason
 
 sets_stays : {s t : ℕ} → Sets s t → Stays s t
 sets_stays {s} {t} e = record {

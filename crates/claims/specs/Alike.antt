@@ -1,6 +1,5 @@
 -- When two ways of keeping uploads answer alike: for demand 3 the machine's slots and the whole history, but also any other two. Definitions only.
-use Rattle.std.specs.Prelude.{ℕ, suc, ◌<◌, ◌≡◌, true, length}
-use Rattle.store.specs.declared.Room.TheVariants.{Fits}
+use Rattle.std.specs.Prelude.{ℕ, suc, ◌<◌, ◌≡◌, true, length, Ok}
 use Rattle.store.specs.Slots.{area_of, sides_ok}
 use Rattle.state.specs.State.{most_payload}
 use Rattle.execute.specs.Commands.{Load}
@@ -15,7 +14,7 @@ pub record Passing (l : Load) : Type 0 where
 pub record Alike {X Y : Type 0} (K : Keep X) (P : Keep Y) (Rel : X → Y → Type 0) : Type 0 where
   pub look_same : (x : X) (y : Y) → Rel x y → K.look x ≡ P.look y
   pub room_same : (x : X) (y : Y) (l : Load) → Rel x y → K.room x l ≡ P.room y l
-  pub put-kept : (x : X) (y : Y) (l : Load) → Rel x y → Passing l → P.room y l ≡ Fits → Rel (K.put x l) (P.put y l)
+  pub put-kept : (x : X) (y : Y) (l : Load) → Rel x y → Passing l → P.room y l ≡ Ok _ → Rel (K.put x l) (P.put y l)
   pub payload_same : (x : X) (y : Y) → Rel x y → K.payload x ≡ P.payload y
   pub add_kept : (w : ℕ) (x : X) (y : Y) → Rel x y → length (P.payload y) < most_payload → Rel (K.add w x) (P.add w y)
   pub add-length : (w : ℕ) (y : Y) → length (P.payload (P.add w y)) ≡ suc (length (P.payload y))

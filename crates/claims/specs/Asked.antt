@@ -1,15 +1,14 @@
 -- What demand 3 says about a history: a draw gets the last accepted upload of its kind under its number, it is refused for want of one exactly if there is none, and the store rule decides whether there is room. Definitions only.
-use Rattle.std.specs.Prelude.{ℕ, zero, suc, ◌*◌, ◌≤◌, ◌<◌, ◌≡◌, Bool, List, [], ◌∷◌, ◌++◌, map, length, drop}
+use Rattle.std.specs.Prelude.{ℕ, zero, suc, ◌*◌, ◌≤◌, ◌<◌, ◌≡◌, Bool, List, [], ◌∷◌, ◌++◌, map, length, drop, Result, ⊤}
+use Rattle.verdict.specs.Verdict.{Verdict, done, refused}
 use Rattle.std.proofs.Math.Option.{Option, none, some}
 use Rattle.std.specs.Int.Bits.{bit_or}
 use Rattle.verdict.specs.Verdict.{bits_of}
 use Rattle.verdict.specs.declared.Reason.TheVariants.{NotHeld}
-use Rattle.verdict.specs.declared.Verdict.{Verdict}
-use Rattle.verdict.specs.declared.Verdict.TheVariants.{Done, Refused}
 use Rattle.payload.specs.Words.{and_then, word_at}
 use Rattle.settings.specs.declared.Settings.{Settings}
 use Rattle.store.specs.declared.Kind.{Kind}
-use Rattle.store.specs.declared.Room.{Room}
+use Rattle.store.specs.declared.NoRoom.{NoRoom}
 use Rattle.store.specs.Uploads.{Whole, cards, live, room}
 use Rattle.decide.specs.Verdicts.{triangle_of}
 use Rattle.draw.specs.Draws.{textured_strokes}
@@ -39,16 +38,16 @@ Finds n h (some u) = Last n h u
 -- ---- what a textured triangle says: 18, or 19 if it has normals, with the words p. `found`: what the history has under its number
 pub record Draws (found : Option Whole) (s : Settings) (p : List ℕ) (normal : Bool) (t : Told) : Type 0 where
   -- refused for want of one exactly if there is none
-  pub wanting : found ≡ none → t.verdict ≡ Refused NotHeld 0
-  pub only : (i : ℕ) → t.verdict ≡ Refused NotHeld i → found ≡ none
+  pub wanting : found ≡ none → t.verdict ≡ refused NotHeld 0
+  pub only : (i : ℕ) → t.verdict ≡ refused NotHeld i → found ≡ none
   -- it gets the last accepted upload
   pub gets : t.paints ≡ map stroked (textured_strokes s p normal found)
 
 -- ---- what a sprite says: 10, with the words p
 pub record Copies (found : Option Whole) (p : List ℕ) (t : Told) : Type 0 where
   -- refused for want of one exactly if there is none
-  pub wanting : found ≡ none → t.verdict ≡ Refused NotHeld 0
-  pub only : (i : ℕ) → t.verdict ≡ Refused NotHeld i → found ≡ none
+  pub wanting : found ≡ none → t.verdict ≡ refused NotHeld 0
+  pub only : (i : ℕ) → t.verdict ≡ refused NotHeld i → found ≡ none
   -- it gets the last accepted upload
   pub gets : t.paints ≡ sprite_paints p found
 
@@ -59,7 +58,7 @@ record_at mode words i = triangle_of mode (drop (28 * i) words)
 
 -- what n of them say, from number i on: the first refusal, and all that they paint
 abbrev pub first_refused : (ℕ → Told) → ℕ → ℕ → Verdict
-first_refused tell i zero = Done
+first_refused tell i zero = done
 first_refused tell i (suc n) = and_then (tell i).verdict (first_refused tell (suc i) n)
 
 abbrev pub all_painted : (ℕ → Told) → ℕ → ℕ → List Paint
@@ -77,7 +76,7 @@ pub record Records (look : Look) (s : Settings) (p : List ℕ) (u : Whole) (t : 
 
 -- ---- no room
 -- rule 8.5 over the history, for an upload
-abbrev pub ruled : (Kind → ℕ) → Past → Load → Room
+abbrev pub ruled : (Kind → ℕ) → Past → Load → Result ⊤ NoRoom
 ruled size h l = room (size l.kind) (cards (live (history h l.kind))) l.whole.number (length l.whole.words)
 
 -- the status after a verdict that is not of a full store: it sets at most a bit of value 8, so not bit 6

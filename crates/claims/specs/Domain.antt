@@ -1,9 +1,8 @@
 -- Rule 10.2, the domain of demand 2: which words after a reset are in it. Definitions only.
-use Rattle.std.specs.Prelude.{ℕ, ◌≤◌, ◌≡◌, List, [], ◌∷◌, ◌++◌, map, nat_abs, length, drop, get_or}
+use Rattle.std.specs.Prelude.{ℕ, ◌≤◌, ◌≡◌, List, [], ◌∷◌, ◌++◌, map, nat_abs, length, drop, get_or, Ok}
+use Rattle.verdict.specs.Verdict.{done}
 use Rattle.std.proofs.Math.Option.{some}
 use Rattle.store.specs.declared.Kind.{Kind}
-use Rattle.store.specs.declared.Room.TheVariants.{Fits}
-use Rattle.verdict.specs.declared.Verdict.TheVariants.{Done}
 use Rattle.flat.specs.Words.{signed_at}
 use Rattle.execute.specs.Commands.{Load, told}
 use Rattle.execute.specs.Control.{Control, Seen}
@@ -23,7 +22,7 @@ pub record Within (size : Kind → ℕ) (c : Control Past) : Type 0 where
   -- flat coordinates: x and y of each corner, in command 12 with its eleven words
   pub near : c.opcode ≡ 0x12 → length c.box.payload ≡ 11 → Near c.box.payload (0 ∷ 1 ∷ 3 ∷ 4 ∷ 6 ∷ 7 ∷ [])
   -- an upload that passes its checks has room, by rule 8.5 over the history
-  pub fits : (l : Load) → (told ((as_past size).look c.box) c.settings c.opcode c.box.payload).load ≡ some l → (as_past size).room c.box l ≡ Fits
+  pub fits : (l : Load) → (told ((as_past size).look c.box) c.settings c.opcode c.box.payload).load ≡ some l → (as_past size).room c.box l ≡ Ok _
 
 -- if a word completes a command, that command is in the domain. (A header with count 0 runs a command without words, which is always refused.)
 abbrev pub Fine : (Kind → ℕ) → Seen Past → ℕ → Type 0
@@ -41,7 +40,7 @@ InDomain size ws = Small ws × AllFine size plain_start ws
 abbrev pub RefusedTen : Vpu → ℕ → Type 0
 RefusedTen v w =
     let command = v.command ++ (w ∷ []) in
-    (left : ℕ) → v.expected ≡ some left → left ≤ 1 → get_or command 0 0 ≡ 0x10 → (told v.uploads v.settings 0x10 (drop 1 command)).verdict ≡ Done → ⊥
+    (left : ℕ) → v.expected ≡ some left → left ≤ 1 → get_or command 0 0 ≡ 0x10 → (told v.uploads v.settings 0x10 (drop 1 command)).verdict ≡ done → ⊥
 
 unfoldable pub NoSprites : Vpu → List ℕ → Type 0
 NoSprites v [] = Unit {0}

@@ -1,5 +1,5 @@
 -- The four idle versions, each as a way that any function may behave: docs/CLAIMS.md. `proofs/Idle.antt` shows that none meets its contract. Definitions only.
-use Rattle.std.specs.Prelude.{ℕ, ◌*◌, ◌/◌, ◌%◌, ◌≡◌, cond, List, [], ◌∷◌, ◌++◌, ℤ, Float, length}
+use Rattle.std.specs.Prelude.{ℕ, ◌*◌, ◌/◌, ◌%◌, ◌≡◌, cond, List, [], ◌∷◌, ◌++◌, ℤ, Float, length, Ok}
 use Rattle.std.proofs.Math.Option.{none, some}
 use Rattle.ieee.specs.Number.{unit_of}
 use Rattle.verdict.specs.Verdict.{no_notes}
@@ -7,7 +7,6 @@ use Rattle.screen.specs.Plane.{Answered}
 use Rattle.raster.specs.Ink.{byte_of}
 use Rattle.settings.specs.Settings as settings
 use Rattle.store.specs.declared.Kind.{Kind}
-use Rattle.store.specs.declared.Room.TheVariants.{Fits}
 use Rattle.store.specs.Uploads.{is_some}
 use Rattle.state.specs.State.{well_formed}
 use Rattle.state.specs.declared.State.{State}
@@ -59,8 +58,8 @@ pub record Twice {X : Type 0} (K : Keep X) (x : X) (a b : Load) : Type 0 where
   pub number : a.whole.number ≡ b.whole.number
   pub passing_first : Passing a
   pub passing_second : Passing b
-  pub room-first : K.room x a ≡ Fits
-  pub room-second : K.room (K.put x a) b ≡ Fits
+  pub room-first : K.room x a ≡ Ok _
+  pub room-second : K.room (K.put x a) b ≡ Ok _
 
 -- the control after a reset and these words, with uploads kept from x on
 abbrev pub words_on : {X : Type 0} → Keep X → X → List ℕ → Control X
@@ -82,7 +81,7 @@ abbrev pub upload : ℕ → ℕ → List ℕ
 upload n w = 0x1700_0004 ∷ n ∷ 1 ∷ 1 ∷ w ∷ []
 
 abbrev pub HasRoom : Machine → ℕ → ℕ → Type 0
-HasRoom m n w = as_box.room m.control.box (texture_in (n ∷ 1 ∷ 1 ∷ w ∷ [])) ≡ Fits
+HasRoom m n w = as_box.room m.control.box (texture_in (n ∷ 1 ∷ 1 ∷ w ∷ [])) ≡ Ok _
 
 -- two of them, after the words ws, with room for each as it comes
 pub record TwiceFed (f : Feeder) (m : Machine) (ws : List ℕ) (n a b : ℕ) : Type 0 where

@@ -1,9 +1,9 @@
 -- The original as it reads (rule 10.1): a `Vpu` with its maps of uploads, from `new` and `push` on. No slot, no store, no history, no room, no bound on coordinates.
 -- What its arms do is shared with the port: `told`, and paints. That these are what the Rust does is shown by runs and not by proof. Definitions only.
 use Rattle.std.specs.Prelude.{ℕ, ◌+◌, ◌-◌, ◌*◌, ◌/◌, ◌%◌, cond, ◌&&◌, List, [], ◌∷◌, ◌++◌, eqb, ltb, length, drop, get_or, replicate}
+use Rattle.verdict.specs.Verdict.{done}
 use Rattle.std.proofs.Math.Option.{Option, none, some}
 use Rattle.std.specs.Int.Bits.{bit_or}
-use Rattle.verdict.specs.declared.Verdict.TheVariants.{Done}
 use Rattle.payload.specs.Words.{when_done}
 use Rattle.screen.specs.Plane.{plane_bytes}
 use Rattle.screen.specs.Draw.{pixels}
@@ -65,7 +65,7 @@ copies held s p = told held s 0x10 p
 -- lines 151 to 224, the arms. Line 206, `0x12 if p.len() == 11`: any triangle is drawn, here over whole numbers; outside the domain nothing is claimed
 unfoldable pub arm : Tenth → Look → Settings → ℕ → List ℕ → Told
 arm ten held s opcode p =
-    cond (eqb opcode 0x10) (ten held s p) (cond (eqb opcode 0x12 && eqb (length p) 11) (tells Done s (flat (tri_of p) ∷ [])) (told held s opcode p))
+    cond (eqb opcode 0x10) (ten held s p) (cond (eqb opcode 0x12 && eqb (length p) 11) (tells done s (flat (tri_of p) ∷ [])) (told held s opcode p))
 
 -- what an arm does, `self.status |= 1 << 3` if it refuses; then lines 225 and 226
 abbrev pub ended : Vpu → Told → Vpu

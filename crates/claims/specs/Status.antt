@@ -1,9 +1,9 @@
 -- What a status keeps (rule 1.14), and what a refused command leaves (rule 3.3). Definitions only.
 use Rattle.std.specs.Prelude.{ℕ, ◌/◌, ◌%◌, ◌^◌, ◌≡◌}
+use Rattle.verdict.specs.Verdict.{Verdict}
 use Rattle.std.specs.Int.Bits.{bit_or}
 use Rattle.verdict.specs.Verdict.{number_of, bit_for}
 use Rattle.verdict.specs.declared.Reason.{Reason}
-use Rattle.verdict.specs.declared.Verdict.{Verdict}
 use Rattle.execute.specs.Commands.{Told, told}
 use Rattle.execute.specs.Control.{Keep, Control, verdict_of, execute}
 

@@ -91,14 +91,10 @@ mod tests {
     #[test]
     fn clears(rt: HostRuntime) -> Result<(), AllocError> {
         let mut machine = Machine::new(rt.alloc(), 4)?;
-        assert!(rt; matches!(machine.reset(), Answer::Done));
+        assert_eq!(rt; machine.reset(), Answer::Done);
         assert_eq!(rt; machine.plane.first().copied(), Some(0));
-        assert!(rt;
-            matches!(
-                machine.feed(&[0x0400_0003, 1, 0xffff_ff80, 0]),
-                Answer::Done
-            )
-        );
+        let answer = machine.feed(&[0x0400_0003, 1, 0xffff_ff80, 0]);
+        assert_eq!(rt; answer, Answer::Done);
         assert_eq!(rt; machine.state.notes.status, 0);
         assert_eq!(rt; machine.plane.first().copied(), Some(255));
         assert_eq!(rt; machine.plane.last().copied(), Some(128));

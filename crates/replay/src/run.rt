@@ -7,16 +7,8 @@ use std::io;
 use std::io::Stdout;
 use vpu::Answer;
 
-fn number_of(answer: Answer) -> u64 {
-    match answer {
-        Answer::Done => 0,
-        Answer::WrongLength => 1,
-        Answer::Malformed => 2,
-    }
-}
-
 fn report(out: Stdout, answer: Answer, machine: &Machine) -> io::Result<()> {
-    let answer = number_of(answer);
+    let answer = u32::from(answer);
     let status = machine.state.notes.status;
     let plane = digest::bytes(digest::START, &machine.plane);
     let depth = digest::ints(digest::START, &machine.depth);

@@ -1,11 +1,11 @@
--- `fit_verdict` by its checks, and what a sprite that is not refused has. Assumes nothing.
+-- `fit_verdict` by its checks: each refusal with those before it passed; and what a sprite that is not refused has. Assumes nothing.
 use mathlib.Core.Path.{◌≡◌, refl}
 use mathlib.Core.Bool.{Bool, true, false, cond}
 use mathlib.Core.List.{List, [], ◌∷◌}
 use Prim.Native.Nat.{ℕ, ◌+◌, ◌*◌, ◌/◌, ◌≤◌}
 use native.Mathlib.Nat.{mul-le-mul_left}
 use native.Mathlib.Omega.{arith}
-use borrow.Author.Tests.{leb-true, ne_eqb}
+use borrow.Author.Tests.{leb-true, eq-eqb, ne_eqb}
 use lib.Dec.{eqb, leb}
 use lib.ListN.{get_or}
 use Rattle.verdict.specs.declared.Reason.{Reason}
@@ -16,18 +16,40 @@ use Rattle.flat.proofs.Placed.{first_in}
 use Rattle.sprite.specs.Words.{sprite_of, fit_verdict}
 use Rattle.sprite.specs.Spans.{Placed}
 
-module _ (p : List ℕ) (w h : ℕ) (a : get_or p 3 0 ≡ 0 → ⊥) (b : get_or p 4 0 ≡ 0 → ⊥) where
-  pub sideways : leb (get_or p 1 0 + get_or p 3 0) w ≡ false → fit_verdict p w h ≡ refused OutOfRange 3
+module _ (p : List ℕ) (w h : ℕ) where
+  pub no_width : get_or p 3 0 ≡ 0 → fit_verdict p w h ≡ refused OutOfRange 3
   unfolding fit_verdict
-  sideways c = rw (ne_eqb (get_or p 3 0) 0 a, ne_eqb (get_or p 4 0) 0 b, c)
+  no_width a = rw (eq-eqb (get_or p 3 0) 0 a)
 
-  pub targets : leb (get_or p 1 0 + get_or p 3 0) w ≡ true → leb (get_or p 2 0 + get_or p 4 0) h ≡ true → fit_verdict p w h ≡ first_out p (5 ∷ 6 ∷ [])
-  unfolding fit_verdict
-  targets c d = rw (ne_eqb (get_or p 3 0) 0 a, ne_eqb (get_or p 4 0) 0 b, c, d)
+  module _ (a : get_or p 3 0 ≡ 0 → ⊥) where
+    pub no_height : get_or p 4 0 ≡ 0 → fit_verdict p w h ≡ refused OutOfRange 4
+    unfolding fit_verdict
+    no_height b = rw (ne_eqb (get_or p 3 0) 0 a, eq-eqb (get_or p 4 0) 0 b)
+
+    module _ (b : get_or p 4 0 ≡ 0 → ⊥) where
+      pub sideways : leb (get_or p 1 0 + get_or p 3 0) w ≡ false → fit_verdict p w h ≡ refused OutOfRange 3
+      unfolding fit_verdict
+      sideways c = rw (ne_eqb (get_or p 3 0) 0 a, ne_eqb (get_or p 4 0) 0 b, c)
+
+      module _ (c : leb (get_or p 1 0 + get_or p 3 0) w ≡ true) where
+        pub downwards : leb (get_or p 2 0 + get_or p 4 0) h ≡ false → fit_verdict p w h ≡ refused OutOfRange 4
+        unfolding fit_verdict
+        downwards d = rw (ne_eqb (get_or p 3 0) 0 a, ne_eqb (get_or p 4 0) 0 b, c, d)
+
+        pub targets : leb (get_or p 2 0 + get_or p 4 0) h ≡ true → fit_verdict p w h ≡ first_out p (5 ∷ 6 ∷ [])
+        unfolding fit_verdict
+        targets d = rw (ne_eqb (get_or p 3 0) 0 a, ne_eqb (get_or p 4 0) 0 b, c, d)
 
 -- the target
-pub target_in : (p : List ℕ) → in_reach (signed_at p 5) ≡ true → in_reach (signed_at p 6) ≡ true → first_out p (5 ∷ 6 ∷ []) ≡ done
-target_in p d e = rw (d, e)
+module _ (p : List ℕ) where
+  pub target_x : in_reach (signed_at p 5) ≡ false → first_out p (5 ∷ 6 ∷ []) ≡ refused OutOfRange 5
+  target_x e = rw e
+
+  pub target_y : in_reach (signed_at p 5) ≡ true → in_reach (signed_at p 6) ≡ false → first_out p (5 ∷ 6 ∷ []) ≡ refused OutOfRange 6
+  target_y d e = rw (d, e)
+
+  pub target_in : in_reach (signed_at p 5) ≡ true → in_reach (signed_at p 6) ≡ true → first_out p (5 ∷ 6 ∷ []) ≡ done
+  target_in d e = rw (d, e)
 
 -- ---- what a passed check says
 past : (t : Bool) (r : Reason) (i : ℕ) (v : Verdict) → cond t (refused r i) v ≡ done → v ≡ done

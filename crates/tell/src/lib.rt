@@ -86,6 +86,7 @@ pub fn answer(out: &mut Stdout, seen: &Seen) -> io::Result<()> {
 
 // What the operation asks, by the letters of the table's head. `read` is the pixel at its first two
 // numbers.
+// Stays: a letter is text, looked at here alone; an enum between would name each of them twice.
 pub fn value(
     out: &mut Stdout,
     op: Op,

@@ -67,6 +67,7 @@ impl Plan {
     }
 
     // The letters are those of the table's head.
+    // Stays: a letter is text, looked at here alone; an enum between would name each of them twice.
     fn take(&mut self, op: Op) {
         let [a, b, c, d, e, f] = op.numbers;
         let state = &mut self.state;

@@ -9,17 +9,19 @@ use lib.Ieee.{Float}
 use Rattle.state.specs.State.{well_formed}
 use Rattle.state.specs.declared.State.{State}
 use Rattle.execute.specs.Kept.{machine, state_of}
-use Rattle.vpu.specs.Calls.{Outcome, outcome, lengths_ok, feed}
+use Rattle.vpu.specs.Calls.{Outcome, outcome, number_of, lengths_ok, feed}
+use Rattle.vpu.specs.declared.Fed.{Fed}
 use Rattle.vpu.proofs.Laws.{feed_wrong, feed_malformed, feed-done}
-use Rattle.plain.specs.Plain.{state_in, state_out, switches_ok}
-use Rattle.vpu_c.specs.Calls.{Handed, handed, put_out, feed_c}
+use Rattle.plain.specs.Plain.{state_in, switches_ok}
+use Rattle.vpu_c.specs.Calls.{Handed, handed, put_fed, put_out, feed_c}
+use Rattle.vpu_c.specs.declared.VpuFed.{VpuFed}
 use Rattle.plain.specs.declared.VpuState.{VpuState}
 use Rattle.plain.proofs.Back.{in_out, out_ok, out_in}
 
 -- ---- from what the machine's call answers and leaves to the host's
-pub put_out_lem : {k n : ℕ} {s : State} {v : VpuState} {P : List ℕ} {D : List ℤ} {F : List Float} {C T M : List ℕ} {o : Outcome}
-    → outcome k (machine s P D F C T M) ≡ o → n ≡ k → v ≡ state_out s → handed n v P D F C T M ≡ put_out o
-put_out_lem e a b = rw (a, b) (ap put_out e)
+pub put_out_lem : (f : Fed) {r : VpuFed} {P : List ℕ} {D : List ℤ} {F : List Float} {C T M : List ℕ} {o : Outcome}
+    → outcome (number_of f.answer) (machine f.state P D F C T M) ≡ o → r ≡ put_fed f → handed r.answer r.state P D F C T M ≡ put_out o
+put_out_lem f e a = rw a (ap put_out e)
 
 module _ (v : VpuState) (ws P : List ℕ) (D : List ℤ) (F : List Float) (C T M : List ℕ) where
   abbrev lengths : Bool
@@ -47,10 +49,10 @@ module _ (v : VpuState) (ws P : List ℕ) (D : List ℤ) (F : List Float) (C T M
       go false e = rw (feed_c_wrong e, feed_wrong P D F C T M (state_in v) ws e, out_in v s)
 
   -- from the callees' answers to the export's
-  pub fed : {k n : ℕ} {s t : State} {u : VpuState} {P' : List ℕ} {D' : List ℤ} {F' : List Float} {C' T' M' : List ℕ}
-      → outcome k (machine s P' D' F' C' T' M') ≡ feed t ws P D F C T M → t ≡ state_in v → switches_ok v ≡ true → n ≡ k → u ≡ state_out s
-      → handed n u P' D' F' C' T' M' ≡ feed_c v ws P D F C T M
-  fed e t s a b = rw t at (put_out_lem e a b) ∙ sym (feed_c_in s)
+  pub fed : (f : Fed) {r : VpuFed} {t : State} {P' : List ℕ} {D' : List ℤ} {F' : List Float} {C' T' M' : List ℕ}
+      → outcome (number_of f.answer) (machine f.state P' D' F' C' T' M') ≡ feed t ws P D F C T M → t ≡ state_in v → switches_ok v ≡ true → r ≡ put_fed f
+      → handed r.answer r.state P' D' F' C' T' M' ≡ feed_c v ws P D F C T M
+  fed f e t s a = rw t at (put_out_lem f e a) ∙ sym (feed_c_in s)
 
   -- ---- a malformed state
   pub feed_c_malformed : lengths ≡ true → switches_ok v ≡ true → well_formed (state_in v) (length T) (length M) ≡ false → feed_c v ws P D F C T M ≡ handed 2 v P D F C T M

@@ -4,6 +4,12 @@ use Rattle.execute.specs.Kept.{state_of}
 use Rattle.vpu.specs.Calls as vpu
 use Rattle.plain.specs.Plain.{state_in, state_out, switches_ok}
 use Rattle.plain.specs.declared.VpuState.{VpuState}
+use Rattle.vpu.specs.declared.Fed.{Fed}
+use Rattle.vpu_c.specs.declared.VpuFed.{VpuFed}
+
+-- what a call answers, put out: the number of the answer, and the state as plain data
+abbrev pub put_fed : Fed → VpuFed
+put_fed f = record { answer = vpu.number_of f.answer; state = state_out f.state }
 
 -- a call's answer, and all that it leaves
 pub record Handed : Type 0 where

@@ -4,27 +4,29 @@
 
 ghost use Rattle.std.specs.Prelude.{◌≡◌};
 ghost use Rattle.screen.specs.Plane.{pixel_of};
-ghost use Rattle.vpu.specs.Calls.{number_of};
 ghost use Rattle.plain.specs.Plain.{shown};
-ghost use Rattle.vpu_c.specs.Calls.{handed, reset_c, feed_c};
+ghost use Rattle.vpu_c.specs.Calls.{handed, put_fed, reset_c, feed_c};
 
 use plain::{VpuColour, VpuState};
-use vpu::Answer;
+use state::State;
+use vpu::{Answer, Fed};
 
 #[repr(C)]
-#[derive(Clone, Copy)]
+#[derive(Clone, Copy, Debug, PartialEq)]
 pub struct VpuFed {
     pub answer: u32,
     pub state: VpuState,
 }
 
-fn number_of(answer: Answer) -> u32
-    ensures { result ≡ number_of answer }
-{
-    match answer {
-        Answer::Done => 0,
-        Answer::WrongLength => 1,
-        Answer::Malformed => 2,
+impl From<Fed> for VpuFed {
+    ghost from_gives = { λ fed v. v ≡ put_fed fed };
+
+    fn from(fed: Fed) -> VpuFed {
+        let Fed { answer, state } = fed;
+        VpuFed {
+            answer: u32::from(answer),
+            state: VpuState::from(state),
+        }
     }
 }
 
@@ -40,13 +42,7 @@ pub extern "C" fn vpu_reset(
     ensures { handed result.answer result.state plane.new depth.new depth_f32.new command.now textures.new models.new
         ≡ reset_c plane.old depth.old depth_f32.old command.now textures.old models.old }
 {
-    let begun = vpu::reset(plane, depth, depth_f32, command, textures, models);
-    let answer = begun.answer;
-    let state = begun.state;
-    VpuFed {
-        answer: number_of(answer),
-        state: plain::state_out(state),
-    }
+    VpuFed::from(vpu::reset(plane, depth, depth_f32, command, textures, models))
 }
 
 #[unsafe(no_mangle)]
@@ -72,12 +68,18 @@ pub extern "C" fn vpu_feed(
             textures.len(),
             models.len(),
         ) {
-            return VpuFed { answer: 1, state };
+            return VpuFed {
+                answer: u32::from(Answer::WrongLength),
+                state,
+            };
         }
-        return VpuFed { answer: 2, state };
+        return VpuFed {
+            answer: u32::from(Answer::Malformed),
+            state,
+        };
     }
-    let fed = vpu::feed(
-        plain::state_in(state),
+    VpuFed::from(vpu::feed(
+        State::from(state),
         words,
         plane,
         depth,
@@ -85,18 +87,12 @@ pub extern "C" fn vpu_feed(
         command,
         textures,
         models,
-    );
-    let answer = fed.answer;
-    let after = fed.state;
-    VpuFed {
-        answer: number_of(answer),
-        state: plain::state_out(after),
-    }
+    ))
 }
 
 #[unsafe(no_mangle)]
 pub extern "C" fn vpu_pixel(plane: &[u8], x: usize, y: usize) -> VpuColour
     ensures { shown result ≡ pixel_of plane.now x y }
 {
-    plain::colour_out(vpu::pixel(plane, x, y))
+    VpuColour::from(vpu::pixel(plane, x, y))
 }

@@ -3,4 +3,4 @@ use mathlib.Core.Path.{◌∙◌}
 use Rattle.vpu_c.proofs.vpu_pixel.Goals as goal
 
 pub returns : goal.returns
-returns c = c.colour_out.ensures ∙ c.pixel.ensures
+returns c = c.from.ensures ∙ c.pixel.ensures

@@ -3,4 +3,4 @@ use Rattle.vpu_c.proofs.Laws.{put_out_lem}
 use Rattle.vpu_c.proofs.vpu_reset.Goals as goal
 
 pub returns : goal.returns
-returns c = put_out_lem c.reset-begun.ensures c.number_of.ensures c.state_out.ensures
+returns c = put_out_lem c.reset.result c.reset.ensures c.from.ensures
