@@ -8,6 +8,8 @@ use vector::three::{dot, minus, normalize, plus};
 
 #[derive(Clone, Copy, Debug, PartialEq)]
 pub struct Light {
+    // Stays: a switch beside values, since a state that is handed in is given back as it came, and a
+    // light that is off may have any values (`in_out`, `out_in` of plain).
     pub enabled: bool,
     pub ambient: [f32; 3],
     pub diffuse: [f32; 3],

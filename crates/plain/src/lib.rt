@@ -14,6 +14,7 @@ use state::State;
 use store::{SLOTS, Slot};
 use verdict::Notes;
 
+// Stays: the structs for C have numbers where ours have switches and answers.
 #[repr(C)]
 #[derive(Clone, Copy, Debug, PartialEq)]
 pub struct VpuLight {

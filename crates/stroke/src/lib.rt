@@ -17,6 +17,7 @@ use raster::ink::Color;
 pub struct Texture {
     pub width: u32,
     pub height: u32,
+    // Stays: the word of the payload, since `textured_brush` and `tone_of` speak of every number.
     pub mode: u32,
     pub color: Color,
 }
