@@ -25,8 +25,7 @@ pub fn triangle_of(record: &[u32], mode: u32) -> [u32; 29]
 }
 
 // The same checks as for a record that is drawn. No corner is needed for them.
-fn record_verdict(p: &[u32], inverse: Option<Matrix3>, slots: [Slot; SLOTS]) -> Verdict
-    requires { length p.now ≡ 29 }
+fn record_verdict(p: &[u32; 29], inverse: Option<Matrix3>, slots: [Slot; SLOTS]) -> Verdict
     ensures { result ≡ and_then (named_verdict p.now slots) (textured_by p.now true inverse []) }
 {
     mode_and_number(p, slots)?;

@@ -5,7 +5,7 @@
 // A stream is a name of 24 bytes, a count, and as many words: for each call a count and its words.
 #![tactic(auto)]
 
-mod run;
+mod runs;
 mod tape;
 
 use machine::Machine;
@@ -25,10 +25,10 @@ fn play(alloc: Global, source: &mut impl Read, out: Stdout) -> io::Result<()> {
         let Some(tape) = tape::next(alloc, source, out)? else {
             return Ok(());
         };
-        run::by_calls(out, &mut machine, Calls(&tape))?;
+        runs::by_calls(out, &mut machine, Calls(&tape))?;
         let words = tape::joined(alloc, Calls(&tape))?;
-        run::in_pieces(out, &mut machine, "whole", &words, tape::LONGEST)?;
-        run::in_pieces(out, &mut machine, "words", &words, 1)?;
+        runs::in_pieces(out, &mut machine, "whole", &words, tape::LONGEST)?;
+        runs::in_pieces(out, &mut machine, "words", &words, 1)?;
     }
     Ok(())
 }

@@ -74,7 +74,7 @@ pub fn reset(
         ≡ reset plane.old depth.old depth_f32.old command.now textures.old models.old }
 {
     let state = State::fresh();
-    let right = lengths_ok(
+    let fits = lengths_ok(
         plane.len(),
         depth.len(),
         depth_f32.len(),
@@ -82,7 +82,7 @@ pub fn reset(
         textures.len(),
         models.len(),
     );
-    if !right {
+    if !fits {
         return Fed {
             answer: Answer::WrongLength,
             state,

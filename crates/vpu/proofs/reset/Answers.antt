@@ -5,8 +5,8 @@ use Rattle.run.proofs.Laws.{parts_machine}
 use Rattle.vpu.proofs.Laws.{reset_wrong, reset-done}
 use Rattle.vpu.proofs.reset.Goals as goal
 
-pub returns-then-not-right : goal.returns-then-not-right
-returns-then-not-right c = ap (outcome 1)
+pub returns-then-not-fits : goal.returns-then-not-fits
+returns-then-not-fits c = ap (outcome 1)
     (parts_machine
     (record {
       state-is = c.fresh-state.ensures;
@@ -17,7 +17,7 @@ returns-then-not-right c = ap (outcome 1)
       textures-is = refl;
       models-is = refl;
     }))
-    ∙ sym (reset_wrong _ _ _ _ _ _ (sym c.lengths_ok-right.ensures ∙ c.if-not-right.true))
+    ∙ sym (reset_wrong _ _ _ _ _ _ (sym c.lengths_ok-fits.ensures ∙ c.if-not-fits.true))
 
 pub returns : goal.returns
 unfolding cleared
@@ -32,4 +32,4 @@ returns c = ap (outcome 0)
       textures-is = c.fill-2.ensures.after (λ y e. e);
       models-is = c.fill-3.ensures.after (λ y e. e);
     }))
-    ∙ sym (reset-done _ _ _ _ _ _ (sym c.lengths_ok-right.ensures ∙ c.if-not-right.false))
+    ∙ sym (reset-done _ _ _ _ _ _ (sym c.lengths_ok-fits.ensures ∙ c.if-not-fits.false))
