@@ -13,14 +13,14 @@ use vector::normal::Matrix3;
 use verdict::Verdict;
 
 // A record of a model, with the mode between its number and its vertices.
-pub fn triangle_of(record: &[u32], mode: u32) -> [u32; 29]
-    requires { 28 ≤ length record.now }
-    ensures { result ≡ triangle_of mode record.now }
+pub fn triangle_of(words: &[u32], mode: u32) -> [u32; 29]
+    requires { 28 ≤ length words.now }
+    ensures { result ≡ triangle_of mode words.now }
 {
     let mut triangle = [0; 29];
-    triangle[0] = record[0];
+    triangle[0] = words[0];
     triangle[1] = mode;
-    triangle[2..].copy_from_slice(&record[1..28]);
+    triangle[2..].copy_from_slice(&words[1..28]);
     triangle
 }
 

@@ -10,6 +10,7 @@ use screen::dither::threshold;
 use screen::plane::{PLANE_BYTES, VPU_WIDTH};
 
 // `rgb555_dither` for a digit of a texel, which stands for 17 times as much.
+// Stays: with `rgb555_dither` itself a pixel takes 1.7 times as long (docs/DECISIONS.md, "Speed").
 fn tone(digit: u32, threshold: u32) -> u8
     requires { (digit < 16) × (threshold < 16) }
     ensures { result ≡ dither_of (digit * 17) threshold }
