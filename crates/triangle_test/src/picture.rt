@@ -1,5 +1,5 @@
 // A picture on the heap, and the ways to draw a record's triangle on it.
-ghost use Rattle.std.specs.Prelude.{◌≡◌, length, vec_len};
+ghost use Rattle.std.specs.Prelude.{◌≡◌, vec_len};
 ghost use Rattle.screen.specs.Plane.{plane_bytes};
 ghost use Rattle.screen.specs.Draw.{pixels};
 
@@ -26,13 +26,6 @@ fn color(record: &[u8]) -> [f32; 4] {
     array::from_fn(|k| vertex_c::record::float_at(record, 48 + k))
 }
 
-fn clear(plane: &mut [u8])
-    requires { length plane.old ≡ plane_bytes }
-{
-    let plane = <&mut [u8; PLANE_BYTES]>::try_from(plane).unwrap();
-    screen::plane::fill(plane, Rgba::CLEAR);
-}
-
 impl Picture {
     // A cleared picture.
     pub fn new(alloc: Global) -> Result<Picture, AllocError> {
@@ -46,7 +39,7 @@ impl Picture {
     }
 
     pub fn clear(&mut self) {
-        clear(&mut self.plane);
+        screen::plane::fill(&mut self.plane, Rgba::CLEAR);
         screen::depths::refill(&mut self.depth, &mut self.depth_f32);
     }
 
