@@ -122,7 +122,13 @@ fn draw_judged<F: FnOnce() -> Option<Matrix3>>(
     ensures value { result ≡ textured_verdict p.now has_normal (is_some (look_in kind.Texture slots textures.now (get_or p.now 0 0))) s.matrices }
     ensures depth_f32_after { sheet plane.new depth_f32.new ≡ strokes_on (textured_strokes s p.now has_normal (look_in kind.Texture slots textures.now (get_or p.now 0 0))) (sheet plane.old depth_f32.old) }
 {
-    let Judged { slot, corners } = judge::textured(p, has_normal, &s.matrices, inverse, slots)?;
+    let Judged { slot, corners } = judge::textured_with(
+        p,
+        has_normal,
+        &s.matrices,
+        inverse,
+        slots,
+    )?;
     paint_textured(
         plane, depth_f32, corners, has_normal, s, p[1], slot, textures,
     );

@@ -75,6 +75,8 @@ fn own_lit_each(tri: [ClipVertex; 3], lights: &[Light; 8]) -> [ClipVertex; 3]
 }
 
 // 14 and 16.
+// Stays: the modes here and in `textured_lit` are numbers, since the definitions of both speak of
+// every number: one is a host's (`settings_ok`), the other a word of the payload.
 #[tactic(auto, unfolding(crate::specs::Lit::transformed_lit))]
 pub fn transformed_lit(
     tri: [ClipVertex; 3],
@@ -128,8 +130,6 @@ fn face_lit_each(tri: [ClipVertex; 3], normal: [f32; 3], lights: &[Light; 8]) ->
 }
 
 // 18 and 19. Mode 0 is not lit, and in mode 1 only vertex 0 is.
-// Stays: both modes are numbers, since `transformed_lit` and `textured_lit` of specs speak of every
-// number: one is a host's (`settings_ok`), the other a word of the payload.
 #[tactic(auto, unfolding(crate::specs::Lit::textured_lit))]
 pub fn textured_lit(
     tri: [ClipVertex; 3],

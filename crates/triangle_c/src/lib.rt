@@ -13,7 +13,6 @@ use screen::plane::{PIXELS, PLANE_BYTES};
 use vertex_c::record::vertex;
 
 // 0 if the triangle is drawn, else one more than the index of the word that is refused.
-// Stays: a number, since it is what `triangle_c_c` answers to C.
 // Stays: a number, as `triangle_c_c` exports it.
 pub fn triangle_flat(plane: &mut [u8], depth: &mut [i32], p: &[u32]) -> u32
     requires plane_len { length plane.old ≡ plane_bytes }
