@@ -4,7 +4,7 @@ use tell::amount::Amount;
 use trial::memories::Memories;
 use trial::plan::Plan;
 use trial::same;
-use vpu::{Answer, Fed};
+use vpu::Fed;
 
 // The first n, or all if there are fewer.
 fn first<T>(all: &[T], n: usize) -> &[T] {
@@ -33,14 +33,6 @@ pub fn call(plan: &Plan, words: &[u32], memories: &mut Memories) -> Fed {
     }
 }
 
-fn number_of(answer: Answer) -> u32 {
-    match answer {
-        Answer::Done => 0,
-        Answer::WrongLength => 1,
-        Answer::Malformed => 2,
-    }
-}
-
 // How much the call changed of the state that it was given, and of the memories.
 fn changed(plan: &Plan, fed: &Fed, memories: &Memories) -> Amount {
     let same = same::state(&plan.state, &fed.state);
@@ -55,7 +47,7 @@ fn changed(plan: &Plan, fed: &Fed, memories: &Memories) -> Amount {
 pub fn seen<'a>(plan: &Plan, fed: Fed, memories: &'a Memories) -> Seen<'a> {
     let [a, b, c, ..] = plan.lengths;
     Seen {
-        answer: number_of(fed.answer),
+        answer: u32::from(fed.answer),
         changed: changed(plan, &fed, memories),
         state: fed.state,
         plane: first(&memories.plane, a),

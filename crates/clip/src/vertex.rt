@@ -11,6 +11,8 @@ pub struct ClipVertex {
     pub uv: [f32; 2],
 }
 
+// Stays: a plane is a number, since clipping goes from plane to plane in their order (`next_cut`), and
+// any number from 5 on is the last plane (`distance_of`).
 pub fn clip_distance(vertex: ClipVertex, plane: usize) -> f32
     ensures { result ≡ distance_of plane vertex.position }
 {

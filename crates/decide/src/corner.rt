@@ -19,7 +19,7 @@ pub struct Layout {
 
 impl Layout {
     // How many words a vertex has before its texture coordinates, and before its colour.
-    fn uv_at(self) -> usize
+    pub fn uv_at(self) -> usize
         ensures { result ≡ uv_at self.has_normal }
     {
         if self.has_normal { 6 } else { 3 }

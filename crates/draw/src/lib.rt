@@ -3,8 +3,6 @@
 #![tactic(auto)]
 
 ghost use Rattle.std.specs.Prelude.{◌≡◌, true, false, ◌+◌, ◌/◌, ◌≤◌, length, get_or};
-ghost use Rattle.screen.specs.Plane.{plane_bytes};
-ghost use Rattle.screen.specs.Draw.{pixels};
 ghost use Rattle.stroke.specs.Strokes.{sheet, stroke_on, strokes_on};
 ghost use Rattle.store.specs.Uploads.{is_some};
 ghost use Rattle.store.specs.Slots.{area_of, sides_ok, slots_ok, upload_at, look_in};
@@ -19,6 +17,7 @@ use decide::corner::normal_matrix;
 use judge::model::triangle_of;
 use judge::{Judged, mode_and_number};
 use raster::ink::Color;
+use screen::plane::{PIXELS, PLANE_BYTES};
 use settings::Settings;
 use store::{Kind, SLOTS, Slot};
 use stroke::{Brush, Texture};
@@ -47,15 +46,13 @@ fn shaded_brush(shading_mode: u32, tri: [ClipVertex; 3]) -> Brush
 // 14, and with normals 16.
 #[tactic(auto, unfolding(crate::specs::Draws::transformed_strokes, crate::specs::Draws::transformed_corners, stroke::specs::Strokes::strokes_on))]
 pub fn draw_transformed_triangle(
-    plane: &mut [u8],
-    depth_f32: &mut [f32],
+    plane: &mut [u8; PLANE_BYTES],
+    depth_f32: &mut [f32; PIXELS],
     p: &[u32],
     has_normal: bool,
     s: Settings,
 ) -> Verdict
-    requires plane_len { length plane.old ≡ plane_bytes }
-    requires depth_f32_len { length depth_f32.old ≡ pixels }
-    requires p_len { length p.now ≡ words_of has_normal false }
+    requires { length p.now ≡ words_of has_normal false }
     ensures value { result ≡ transformed_verdict p.now has_normal s.matrices }
     ensures depth_f32_after { sheet plane.new depth_f32.new ≡ strokes_on (transformed_strokes s p.now has_normal) (sheet plane.old depth_f32.old) }
 {
@@ -86,8 +83,8 @@ fn textured_brush(slot: Slot, mode: u32, tri: [ClipVertex; 3]) -> Brush
 
 // Corners that passed the checks are lit, and painted with the texture of a slot.
 fn paint_textured(
-    plane: &mut [u8],
-    depth_f32: &mut [f32],
+    plane: &mut [u8; PLANE_BYTES],
+    depth_f32: &mut [f32; PIXELS],
     corners: [ClipVertex; 3],
     has_normal: bool,
     s: Settings,
@@ -95,8 +92,6 @@ fn paint_textured(
     slot: Slot,
     textures: &[u32],
 )
-    requires plane_len { length plane.old ≡ plane_bytes }
-    requires depth_f32_len { length depth_f32.old ≡ pixels }
     requires height_value { sides_ok kind.Texture slot.width slot.height ≡ true }
     requires height_in_bounds { slot.start + area_of kind.Texture slot.width slot.height ≤ length textures.now }
     ensures { sheet plane.new depth_f32.new ≡ stroke_on (textured_stroke s mode has_normal corners (upload_at kind.Texture slot textures.now)) (sheet plane.old depth_f32.old) }
@@ -111,8 +106,8 @@ fn paint_textured(
 // 18 and 19, and a triangle of a model as a 19. The matrix for normals is asked for if the mode and
 // the number passed.
 fn draw_judged<F: FnOnce() -> Option<Matrix3>>(
-    plane: &mut [u8],
-    depth_f32: &mut [f32],
+    plane: &mut [u8; PLANE_BYTES],
+    depth_f32: &mut [f32; PIXELS],
     p: &[u32],
     has_normal: bool,
     s: Settings,
@@ -120,8 +115,6 @@ fn draw_judged<F: FnOnce() -> Option<Matrix3>>(
     slots: [Slot; SLOTS],
     textures: &[u32],
 ) -> Verdict
-    requires plane_len { length plane.old ≡ plane_bytes }
-    requires depth_f32_len { length depth_f32.old ≡ pixels }
     requires p_len { length p.now ≡ words_of has_normal true }
     requires inverse_callable { F.IsAlwaysCallable inverse }
     requires inverse_value { (r : _) → F.post inverse r → r ≡ normal_matrix_of s.matrices has_normal }
@@ -129,7 +122,13 @@ fn draw_judged<F: FnOnce() -> Option<Matrix3>>(
     ensures value { result ≡ textured_verdict p.now has_normal (is_some (look_in kind.Texture slots textures.now (get_or p.now 0 0))) s.matrices }
     ensures depth_f32_after { sheet plane.new depth_f32.new ≡ strokes_on (textured_strokes s p.now has_normal (look_in kind.Texture slots textures.now (get_or p.now 0 0))) (sheet plane.old depth_f32.old) }
 {
-    let Judged { slot, corners } = judge::textured(p, has_normal, &s.matrices, inverse, slots)?;
+    let Judged { slot, corners } = judge::textured_with(
+        p,
+        has_normal,
+        &s.matrices,
+        inverse,
+        slots,
+    )?;
     paint_textured(
         plane, depth_f32, corners, has_normal, s, p[1], slot, textures,
     );
@@ -138,16 +137,14 @@ fn draw_judged<F: FnOnce() -> Option<Matrix3>>(
 
 // 18, and with normals 19.
 pub fn draw_textured_triangle(
-    plane: &mut [u8],
-    depth_f32: &mut [f32],
+    plane: &mut [u8; PLANE_BYTES],
+    depth_f32: &mut [f32; PIXELS],
     p: &[u32],
     has_normal: bool,
     s: Settings,
     slots: [Slot; SLOTS],
     textures: &[u32],
 ) -> Verdict
-    requires plane_len { length plane.old ≡ plane_bytes }
-    requires depth_f32_len { length depth_f32.old ≡ pixels }
     requires p_len { length p.now ≡ words_of has_normal true }
     requires slots_value { slots_ok kind.Texture (length textures.now) 0 slots ≡ true }
     ensures value { result ≡ textured_verdict p.now has_normal (is_some (look_in kind.Texture slots textures.now (get_or p.now 0 0))) s.matrices }
@@ -159,17 +156,15 @@ pub fn draw_textured_triangle(
 
 // The records, each painted if it is not refused.
 fn draw_records(
-    plane: &mut [u8],
-    depth_f32: &mut [f32],
+    plane: &mut [u8; PLANE_BYTES],
+    depth_f32: &mut [f32; PIXELS],
     s: Settings,
     slots: [Slot; SLOTS],
     textures: &[u32],
     mode: u32,
     words: &[u32],
 ) -> Verdict
-    requires plane_len { length plane.old ≡ plane_bytes }
-    requires depth_f32_len { length depth_f32.old ≡ pixels }
-    requires slots_value { slots_ok kind.Texture (length textures.now) 0 slots ≡ true }
+    requires { slots_ok kind.Texture (length textures.now) 0 slots ≡ true }
     ensures value { result ≡ records_verdict mode (has_in (look_in kind.Texture slots textures.now)) s.matrices (length words.now / 28) words.now }
     ensures depth_f32_after { sheet plane.new depth_f32.new ≡ strokes_on (records_strokes s mode (look_in kind.Texture slots textures.now) (length words.now / 28) words.now) (sheet plane.old depth_f32.old) }
 {
@@ -194,8 +189,8 @@ fn draw_records(
 
 // 1B. The first refused record gives the draw's verdict.
 pub fn draw_model(
-    plane: &mut [u8],
-    depth_f32: &mut [f32],
+    plane: &mut [u8; PLANE_BYTES],
+    depth_f32: &mut [f32; PIXELS],
     p: &[u32],
     s: Settings,
     slots: [Slot; SLOTS],
@@ -203,8 +198,6 @@ pub fn draw_model(
     model_slots: [Slot; SLOTS],
     models: &[u32],
 ) -> Verdict
-    requires plane_len { length plane.old ≡ plane_bytes }
-    requires depth_f32_len { length depth_f32.old ≡ pixels }
     requires p_len { length p.now ≡ 2 }
     requires slots_value { slots_ok kind.Texture (length textures.now) 0 slots ≡ true }
     requires model_slots_value { slots_ok kind.Model (length models.now) 0 model_slots ≡ true }

@@ -1,10 +1,9 @@
 // 04: flag 1 fills the plane, flag 2 refills both depths.
 ghost use Rattle.std.specs.Prelude.{◌≡◌, length};
-ghost use Rattle.screen.specs.Plane.{plane_bytes};
 ghost use Rattle.execute.specs.Paints.{picture, paints_on};
 ghost use Rattle.execute.specs.Commands.{rgba_of, clear_painted};
 
-use screen::plane::Rgba;
+use screen::plane::{PIXELS, PLANE_BYTES, Rgba};
 use verdict::Verdict;
 
 #[tactic(auto, unfolding(crate::specs::Commands::rgba_of))]
@@ -20,9 +19,13 @@ fn rgba_of(word: u32) -> Rgba
 }
 
 // Flags beyond 3 still clear, and are then refused.
-pub fn clear(plane: &mut [u8], depth: &mut [i32], depth_f32: &mut [f32], p: &[u32]) -> Verdict
-    requires plane_len { length plane.old ≡ plane_bytes }
-    requires p_len { length p.now ≡ 3 }
+pub fn clear(
+    plane: &mut [u8; PLANE_BYTES],
+    depth: &mut [i32; PIXELS],
+    depth_f32: &mut [f32; PIXELS],
+    p: &[u32],
+) -> Verdict
+    requires { length p.now ≡ 3 }
     ensures value { result ≡ (clear_painted p.now).verdict }
     ensures depth_f32_after { picture plane.new depth.new depth_f32.new ≡ paints_on (clear_painted p.now).paints (picture plane.old depth.old depth_f32.old) }
 {

@@ -1,7 +1,5 @@
 // The commands that paint: 04, 10, 12, 14, 16, 18, 19 and 1B.
 ghost use Rattle.std.specs.Prelude.{◌≡◌, true, length};
-ghost use Rattle.screen.specs.Plane.{plane_bytes};
-ghost use Rattle.screen.specs.Draw.{pixels};
 ghost use Rattle.store.specs.Slots.{slots_ok};
 ghost use Rattle.store.specs.declared.Kind.TheVariants as kind;
 ghost use Rattle.execute.specs.Paints.{picture, paints_on};
@@ -10,6 +8,7 @@ ghost use Rattle.execute.specs.Kept.{shelf, look_on};
 
 use crate::clear::clear;
 use command::{Draw, draw_words};
+use screen::plane::{PIXELS, PLANE_BYTES};
 use settings::Settings;
 use store::{SLOTS, Slot};
 use verdict::{Verdict, wrong_length};
@@ -22,13 +21,10 @@ pub fn paint(
     textures: &[u32],
     model_slots: [Slot; SLOTS],
     models: &[u32],
-    plane: &mut [u8],
-    depth: &mut [i32],
-    depth_f32: &mut [f32],
+    plane: &mut [u8; PLANE_BYTES],
+    depth: &mut [i32; PIXELS],
+    depth_f32: &mut [f32; PIXELS],
 ) -> Verdict
-    requires plane_len { length plane.old ≡ plane_bytes }
-    requires depth_len { length depth.old ≡ pixels }
-    requires depth_f32_len { length depth_f32.old ≡ pixels }
     requires slots_value { slots_ok kind.Texture (length textures.now) 0 slots ≡ true }
     requires model_slots_value { slots_ok kind.Model (length models.now) 0 model_slots ≡ true }
     ensures value { result ≡ (painted_by (look_on (shelf slots textures.now) (shelf model_slots models.now)) s draw p.now).verdict }

@@ -213,15 +213,25 @@ pub fn edges_of(f: Face, y: usize) -> Edges
 
 // Are all three edges on the area's side? The area is tested first: tested at each edge, it made
 // the compiler do both comparisons of each.
+// Stays: with `&&` in each arm large triangles took 2 % longer.
 #[tactic(auto, unfolding(crate::specs::Pixel::inside_of))]
 pub fn inside(area: f32, w0: f32, w1: f32, w2: f32) -> bool
     ensures { result ≡ inside_of area w0 w1 w2 }
 {
     if area > 0.0 {
-        w0 >= 0.0 && w1 >= 0.0 && w2 >= 0.0
-    } else {
-        w0 <= 0.0 && w1 <= 0.0 && w2 <= 0.0
+        if w0 >= 0.0 {
+            if w1 >= 0.0 {
+                return w2 >= 0.0;
+            }
+        }
+        return false;
     }
+    if w0 <= 0.0 {
+        if w1 <= 0.0 {
+            return w2 <= 0.0;
+        }
+    }
+    false
 }
 
 // A sum of three products, left to right.

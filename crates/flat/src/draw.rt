@@ -1,7 +1,7 @@
 // A triangle that was not refused, drawn: by rows, within its bounds. The contracts name no bounds,
 // since nothing outside them is covered.
-ghost use Rattle.std.specs.Prelude.{◌≡◌, true, ◌+◌, ◌*◌, ◌<◌, length};
-ghost use Rattle.screen.specs.Plane.{width, height, plane_bytes};
+ghost use Rattle.std.specs.Prelude.{◌≡◌, true, ◌+◌, ◌*◌, ◌<◌};
+ghost use Rattle.screen.specs.Plane.{width, height};
 ghost use Rattle.screen.specs.Draw.{pixels};
 ghost use Rattle.flat.specs.Row.{edges_of};
 ghost use Rattle.flat.specs.Tri.{Placed, weights_of, covers, tri_depths, tri_plane};
@@ -10,12 +10,17 @@ ghost use Rattle.flat.specs.Drawing.{turned_of, TriDrawn};
 use crate::edge::{Edges, Weights};
 use crate::solid::Solid;
 use crate::tri::Tri;
-use screen::plane::VPU_WIDTH;
+use screen::plane::{PIXELS, PLANE_BYTES, VPU_WIDTH};
 
 // A pixel that the triangle covers, with its edges there: it is drawn if it is nearer.
-fn cover(plane: &mut [u8], depth: &mut [i32], s: Solid, x: usize, y: usize, w: Weights)
-    requires plane_len { length plane.old ≡ plane_bytes }
-    requires depth_len { length depth.old ≡ pixels }
+fn cover(
+    plane: &mut [u8; PLANE_BYTES],
+    depth: &mut [i32; PIXELS],
+    s: Solid,
+    x: usize,
+    y: usize,
+    w: Weights,
+)
     requires x_lt_width { (x < width) × (y < height) }
     requires y_value { covers s.tri x y ≡ true }
     requires w_value { w ≡ weights_of s.tri x y }
@@ -31,9 +36,14 @@ fn cover(plane: &mut [u8], depth: &mut [i32], s: Solid, x: usize, y: usize, w: W
 }
 
 // One pixel: the first edge that it is beyond settles it.
-fn draw_pixel(plane: &mut [u8], depth: &mut [i32], s: Solid, edges: Edges, x: usize, y: usize)
-    requires plane_len { length plane.old ≡ plane_bytes }
-    requires depth_len { length depth.old ≡ pixels }
+fn draw_pixel(
+    plane: &mut [u8; PLANE_BYTES],
+    depth: &mut [i32; PIXELS],
+    s: Solid,
+    edges: Edges,
+    x: usize,
+    y: usize,
+)
     requires x_lt_width { (x < width) × (y < height) }
     requires edges_value { edges ≡ edges_of s.tri y }
     ensures { TriDrawn s.tri (y * width + x) (y * width + x + 1) depth.old plane.old depth.new plane.new }
@@ -50,10 +60,8 @@ fn draw_pixel(plane: &mut [u8], depth: &mut [i32], s: Solid, edges: Edges, x: us
     }
 }
 
-fn draw_row(plane: &mut [u8], depth: &mut [i32], s: Solid, y: usize)
-    requires plane_len { length plane.old ≡ plane_bytes }
-    requires depth_len { length depth.old ≡ pixels }
-    requires y_lt_height { y < height }
+fn draw_row(plane: &mut [u8; PLANE_BYTES], depth: &mut [i32; PIXELS], s: Solid, y: usize)
+    requires { y < height }
     ensures { TriDrawn s.tri (y * width) (y * width + width) depth.old plane.old depth.new plane.new }
 {
     let edges = crate::edge::edges_of(s.tri, y);
@@ -62,9 +70,7 @@ fn draw_row(plane: &mut [u8], depth: &mut [i32], s: Solid, y: usize)
     }
 }
 
-fn draw_rows(plane: &mut [u8], depth: &mut [i32], s: Solid)
-    requires plane_len { length plane.old ≡ plane_bytes }
-    requires depth_len { length depth.old ≡ pixels }
+fn draw_rows(plane: &mut [u8; PLANE_BYTES], depth: &mut [i32; PIXELS], s: Solid)
     ensures { TriDrawn s.tri 0 pixels depth.old plane.old depth.new plane.new }
 {
     for y in s.bounds.top..s.bounds.bottom {
@@ -86,10 +92,8 @@ fn turned(t: Tri) -> Tri
 
 // The original tests edges against the sign of the area. Here a triangle of negative area is turned
 // first, so that a pixel is inside if no edge is negative.
-pub fn draw_tri(plane: &mut [u8], depth: &mut [i32], t: Tri)
-    requires placed { Placed t }
-    requires plane_len { length plane.old ≡ plane_bytes }
-    requires depth_len { length depth.old ≡ pixels }
+pub fn draw_tri(plane: &mut [u8; PLANE_BYTES], depth: &mut [i32; PIXELS], t: Tri)
+    requires { Placed t }
     ensures depth_after { depth.new ≡ tri_depths t depth.old }
     ensures plane_after { plane.new ≡ tri_plane t depth.old plane.old }
 {

@@ -3,10 +3,9 @@
 #![tactic(auto)]
 
 ghost use Rattle.std.specs.Prelude.{◌≡◌, length};
-ghost use Rattle.screen.specs.Plane.{plane_bytes};
-ghost use Rattle.screen.specs.Draw.{pixels};
 ghost use Rattle.flat.specs.Words.{flat_verdict, flat_depths, flat_plane};
 
+use screen::plane::{PIXELS, PLANE_BYTES};
 use verdict::Verdict;
 
 pub mod bounds;
@@ -15,10 +14,12 @@ pub mod edge;
 pub mod solid;
 pub mod tri;
 
-pub fn draw_flat_triangle(plane: &mut [u8], depth: &mut [i32], p: &[u32]) -> Verdict
-    requires plane_len { length plane.old ≡ plane_bytes }
-    requires depth_len { length depth.old ≡ pixels }
-    requires p_len { length p.now ≡ 11 }
+pub fn draw_flat_triangle(
+    plane: &mut [u8; PLANE_BYTES],
+    depth: &mut [i32; PIXELS],
+    p: &[u32],
+) -> Verdict
+    requires { length p.now ≡ 11 }
     ensures value { result ≡ flat_verdict p.now }
     ensures depth_after { depth.new ≡ flat_depths p.now depth.old }
     ensures plane_after { plane.new ≡ flat_plane p.now depth.old plane.old }

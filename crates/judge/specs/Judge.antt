@@ -25,7 +25,7 @@ held_in slots n = is_at (slot_for n slots)
 unfoldable pub named_verdict : List ℕ → List Slot → Verdict
 named_verdict p slots = and_then (at_most p 1 2) (held_of (held_in slots (word_at p 0)))
 
--- what is handed on: the slot under the number. If there is none, or if the mode is refused, it is an unused one that nobody reads
+-- the slot under the number; if there is none, an unused one, which `passed` leaves out
 abbrev pub slot_or : Option Slot → Slot
 slot_or (Some slot) = slot
 slot_or None = no_slot

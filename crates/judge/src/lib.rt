@@ -10,6 +10,7 @@ ghost use Rattle.decide.specs.Corners.{words_of, normal_matrix_of};
 ghost use Rattle.judge.specs.Judge.{named_verdict, slot_by, judged_by};
 
 use clip::vertex::ClipVertex;
+use decide::corner::normal_matrix;
 use payload::at_most;
 use store::{SLOTS, Slot};
 use vector::normal::Matrix3;
@@ -36,7 +37,7 @@ pub struct Judged {
 // 18, and with normals 19; a triangle of a model is judged as a 19. The matrix for normals is asked
 // for if the mode and the number passed: a 19 works it out then, and the records of a model share one.
 #[tactic(auto, unfolding(crate::specs::Judge::judged_by, crate::specs::Judge::named_verdict, decide::specs::Verdicts::textured_verdict))]
-pub fn textured<F: FnOnce() -> Option<Matrix3>>(
+pub fn textured_with<F: FnOnce() -> Option<Matrix3>>(
     p: &[u32],
     has_normal: bool,
     m: &[f32; 48],
@@ -51,4 +52,12 @@ pub fn textured<F: FnOnce() -> Option<Matrix3>>(
     let slot = mode_and_number(p, slots)?;
     let corners = decide::verdicts::textured(p, has_normal, m, inverse())?;
     Ok(Judged { slot, corners })
+}
+
+// 18, and with normals 19, decided by itself.
+pub fn textured(p: &[u32], has_normal: bool, m: &[f32; 48], slots: [Slot; SLOTS]) -> Verdict<Judged>
+    requires { length p.now ≡ words_of has_normal true }
+    ensures { result ≡ judged_by p.now has_normal m.now slots }
+{
+    textured_with(p, has_normal, m, || normal_matrix(m, has_normal), slots)
 }

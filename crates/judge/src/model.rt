@@ -13,20 +13,19 @@ use vector::normal::Matrix3;
 use verdict::Verdict;
 
 // A record of a model, with the mode between its number and its vertices.
-pub fn triangle_of(record: &[u32], mode: u32) -> [u32; 29]
-    requires { 28 ≤ length record.now }
-    ensures { result ≡ triangle_of mode record.now }
+pub fn triangle_of(words: &[u32], mode: u32) -> [u32; 29]
+    requires { 28 ≤ length words.now }
+    ensures { result ≡ triangle_of mode words.now }
 {
     let mut triangle = [0; 29];
-    triangle[0] = record[0];
+    triangle[0] = words[0];
     triangle[1] = mode;
-    triangle[2..].copy_from_slice(&record[1..28]);
+    triangle[2..].copy_from_slice(&words[1..28]);
     triangle
 }
 
 // The same checks as for a record that is drawn. No corner is needed for them.
-fn record_verdict(p: &[u32], inverse: Option<Matrix3>, slots: [Slot; SLOTS]) -> Verdict
-    requires { length p.now ≡ 29 }
+fn record_verdict(p: &[u32; 29], inverse: Option<Matrix3>, slots: [Slot; SLOTS]) -> Verdict
     ensures { result ≡ and_then (named_verdict p.now slots) (textured_by p.now true inverse []) }
 {
     mode_and_number(p, slots)?;

@@ -75,6 +75,8 @@ fn own_lit_each(tri: [ClipVertex; 3], lights: &[Light; 8]) -> [ClipVertex; 3]
 }
 
 // 14 and 16.
+// Stays: the modes here and in `textured_lit` are numbers, since the definitions of both speak of
+// every number: one is a host's (`settings_ok`), the other a word of the payload.
 #[tactic(auto, unfolding(crate::specs::Lit::transformed_lit))]
 pub fn transformed_lit(
     tri: [ClipVertex; 3],

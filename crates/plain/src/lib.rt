@@ -14,6 +14,7 @@ use state::State;
 use store::{SLOTS, Slot};
 use verdict::Notes;
 
+// Stays: the structs for C have numbers where ours have switches and answers.
 #[repr(C)]
 #[derive(Clone, Copy, Debug, PartialEq)]
 pub struct VpuLight {
@@ -156,7 +157,7 @@ impl From<Slot> for VpuSlot {
 }
 
 // Arrays are turned element by element.
-// Stays: an array's `map` moves each element through an Option, and takes three times as long here.
+// Stays: an array's `map` moves each element through an Option, and takes two and a half times as long.
 fn lights_in(lights: [VpuLight; 8]) -> [Light; 8]
     ensures { result ≡ map light_in lights }
 {

@@ -1,8 +1,8 @@
 -- What the steps of a draw are given, and what they leave. Definitions only.
 use Rattle.std.specs.Prelude.{◌≡◌, ℕ, ◌<◌, ◌≤◌, true, List, Float}
 use Rattle.std.specs.Float.{nan}
-use Rattle.screen.specs.Plane.{width, height, plane_bytes}
-use Rattle.screen.specs.Draw.{pixels, Drawn}
+use Rattle.screen.specs.Plane.{width, height}
+use Rattle.screen.specs.Draw.{Drawn}
 use Rattle.face.specs.declared.Face.{Face}
 use Rattle.raster.specs.declared.ink.Ink.{Ink}
 use Rattle.face.specs.Pixel.{within}
@@ -13,10 +13,8 @@ use Rattle.raster.specs.Raster.{shows, new_depth, ink_at}
 abbrev pub FaceDrawn : List ℕ → Ink → Face → ℕ → ℕ → List Float → List ℕ → List Float → List ℕ → Type 0
 FaceDrawn texels ink f = Drawn nan (shows f) (new_depth f) (ink_at texels ink f)
 
--- buffers and words of these lengths, and a box on the screen
-pub record Ready (ink : Ink) (f : Face) (texels plane depth : ℕ) : Type 0 where
-  pub of-plane : plane ≡ plane_bytes
-  pub of-depth : depth ≡ pixels
+-- words of this length, and a box on the screen
+pub record Ready (ink : Ink) (f : Face) (texels : ℕ) : Type 0 where
   pub of_right : f.bounds.right ≤ width
   pub of_bottom : f.bounds.bottom ≤ height
   pub stored : Stored ink texels

@@ -4,13 +4,12 @@
 #![tactic(auto)]
 
 ghost use Rattle.std.specs.Prelude.{◌≡◌, length};
-ghost use Rattle.screen.specs.Plane.{plane_bytes};
-ghost use Rattle.screen.specs.Draw.{pixels};
 ghost use Rattle.raster.specs.Ink.{Texture};
 ghost use Rattle.raster.specs.Triangles.{transformed_ink, tone_of, textured_ink, transformed_depths, transformed_plane, textured_depths, textured_plane};
 
 use crate::ink::{Color, Ink, Tone};
 use clip::vertex::ClipVertex;
+use screen::plane::{PIXELS, PLANE_BYTES};
 
 pub mod ink;
 mod rows;
@@ -26,13 +25,11 @@ fn transformed_ink(tri: [ClipVertex; 3], flat: Option<Color>) -> Ink
 }
 
 pub fn rasterize_transformed_triangle(
-    plane: &mut [u8],
-    depth_f32: &mut [f32],
+    plane: &mut [u8; PLANE_BYTES],
+    depth_f32: &mut [f32; PIXELS],
     tri: [ClipVertex; 3],
     flat: Option<Color>,
 )
-    requires plane_len { length plane.old ≡ plane_bytes }
-    requires depth_f32_len { length depth_f32.old ≡ pixels }
     ensures depth_f32_after { depth_f32.new ≡ transformed_depths tri depth_f32.old }
     ensures plane_after { plane.new ≡ transformed_plane tri flat depth_f32.old plane.old }
 {
@@ -65,8 +62,8 @@ fn textured_ink(tri: [ClipVertex; 3], width: u32, height: u32, mode: u32, flat_c
 
 // The texels are the words as received, two to a word.
 pub fn rasterize_textured_triangle(
-    plane: &mut [u8],
-    depth_f32: &mut [f32],
+    plane: &mut [u8; PLANE_BYTES],
+    depth_f32: &mut [f32; PIXELS],
     tri: [ClipVertex; 3],
     width: u32,
     height: u32,
@@ -74,8 +71,6 @@ pub fn rasterize_textured_triangle(
     mode: u32,
     flat_color: Color,
 )
-    requires plane_len { length plane.old ≡ plane_bytes }
-    requires depth_f32_len { length depth_f32.old ≡ pixels }
     requires texture { Texture width height (length texels.now) }
     ensures depth_f32_after { depth_f32.new ≡ textured_depths tri depth_f32.old }
     ensures plane_after { plane.new ≡ textured_plane tri width height texels.now mode flat_color depth_f32.old plane.old }

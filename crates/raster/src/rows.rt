@@ -1,7 +1,7 @@
 // A triangle that is set up, painted by rows within its box. One pair of loops serves every ink.
 ghost use Rattle.std.specs.Prelude.{◌≡◌, ◌+◌, ◌*◌, ◌<◌, ◌≤◌, true, length};
 ghost use Rattle.laws.specs.Cells.{map_range};
-ghost use Rattle.screen.specs.Plane.{width, height, plane_bytes};
+ghost use Rattle.screen.specs.Plane.{width, height};
 ghost use Rattle.screen.specs.Draw.{pixels};
 ghost use Rattle.face.specs.Face.{OnScreen};
 ghost use Rattle.face.specs.Pixel.{covers, weight0, weight1, weight2};
@@ -12,10 +12,9 @@ ghost use Rattle.raster.specs.Raster.{inked, depths_after, plane_after};
 
 use crate::ink::Ink;
 use face::{Corners, Edges, Face};
-use screen::plane::{Rgba, VPU_WIDTH};
+use screen::plane::{PIXELS, PLANE_BYTES, Rgba, VPU_WIDTH};
 
-fn put(plane: &mut [u8], x: usize, y: usize, shade: Option<Rgba>)
-    requires plane_len { length plane.old ≡ plane_bytes }
+fn put(plane: &mut [u8; PLANE_BYTES], x: usize, y: usize, shade: Option<Rgba>)
     requires x_lt_width { (x < width) × (y < height) }
     ensures { plane.new ≡ map_range (inked shade) ((y * width + x) * 4) ((y * width + x) * 4 + 4) plane.old }
 {
@@ -26,8 +25,8 @@ fn put(plane: &mut [u8], x: usize, y: usize, shade: Option<Rgba>)
 
 // A pixel that the triangle covers, with its edges there: it is drawn if its depth passes.
 fn cover(
-    plane: &mut [u8],
-    depth: &mut [f32],
+    plane: &mut [u8; PLANE_BYTES],
+    depth: &mut [f32; PIXELS],
     texels: &[u32],
     ink: Ink,
     f: Face,
@@ -37,7 +36,7 @@ fn cover(
     w1: f32,
     w2: f32,
 )
-    requires ready { Ready ink f (length texels.now) (length plane.old) (length depth.old) }
+    requires ready { Ready ink f (length texels.now) }
     requires inside { Inside f x y }
     requires y_value { covers f x y ≡ true }
     requires w0_value { (w0 ≡ weight0 f x y) × (w1 ≡ weight1 f x y) × (w2 ≡ weight2 f x y) }
@@ -63,8 +62,8 @@ fn cover(
 
 // One pixel, if it is inside all three edges.
 fn draw_pixel(
-    plane: &mut [u8],
-    depth: &mut [f32],
+    plane: &mut [u8; PLANE_BYTES],
+    depth: &mut [f32; PIXELS],
     texels: &[u32],
     ink: Ink,
     f: Face,
@@ -72,7 +71,7 @@ fn draw_pixel(
     x: usize,
     y: usize,
 )
-    requires ready { Ready ink f (length texels.now) (length plane.old) (length depth.old) }
+    requires ready { Ready ink f (length texels.now) }
     requires inside { Inside f x y }
     requires edges_value { edges ≡ edges_of f y }
     ensures { FaceDrawn texels.now ink f (y * width + x) (y * width + x + 1) depth.old plane.old depth.new plane.new }
@@ -86,8 +85,15 @@ fn draw_pixel(
     }
 }
 
-fn draw_row(plane: &mut [u8], depth: &mut [f32], texels: &[u32], ink: Ink, f: Face, y: usize)
-    requires ready { Ready ink f (length texels.now) (length plane.old) (length depth.old) }
+fn draw_row(
+    plane: &mut [u8; PLANE_BYTES],
+    depth: &mut [f32; PIXELS],
+    texels: &[u32],
+    ink: Ink,
+    f: Face,
+    y: usize,
+)
+    requires ready { Ready ink f (length texels.now) }
     requires top_le_y { (f.bounds.top ≤ y) × (y < f.bounds.bottom) }
     ensures { FaceDrawn texels.now ink f (y * width) (y * width + width) depth.old plane.old depth.new plane.new }
 {
@@ -97,8 +103,14 @@ fn draw_row(plane: &mut [u8], depth: &mut [f32], texels: &[u32], ink: Ink, f: Fa
     }
 }
 
-fn draw_rows(plane: &mut [u8], depth: &mut [f32], texels: &[u32], ink: Ink, f: Face)
-    requires { Ready ink f (length texels.now) (length plane.old) (length depth.old) }
+fn draw_rows(
+    plane: &mut [u8; PLANE_BYTES],
+    depth: &mut [f32; PIXELS],
+    texels: &[u32],
+    ink: Ink,
+    f: Face,
+)
+    requires { Ready ink f (length texels.now) }
     ensures { FaceDrawn texels.now ink f 0 pixels depth.old plane.old depth.new plane.new }
 {
     for y in f.bounds.top..f.bounds.bottom {
@@ -106,9 +118,13 @@ fn draw_rows(plane: &mut [u8], depth: &mut [f32], texels: &[u32], ink: Ink, f: F
     }
 }
 
-pub fn draw(plane: &mut [u8], depth: &mut [f32], texels: &[u32], ink: Ink, setup: Option<Face>)
-    requires plane_len { length plane.old ≡ plane_bytes }
-    requires depth_len { length depth.old ≡ pixels }
+pub fn draw(
+    plane: &mut [u8; PLANE_BYTES],
+    depth: &mut [f32; PIXELS],
+    texels: &[u32],
+    ink: Ink,
+    setup: Option<Face>,
+)
     requires stored { Stored ink (length texels.now) }
     requires on_screen { OnScreen setup }
     ensures depth_after { depth.new ≡ depths_after setup depth.old }

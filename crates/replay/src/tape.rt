@@ -1,5 +1,5 @@
 // Streams as the file has them, read into a tape of words.
-ghost use Rattle.std.specs.Prelude.{◌≤◌, length, IfOk, MatchOption, vec_len};
+ghost use Rattle.std.specs.Prelude.{length};
 ghost use Rattle.std.specs.Iterator.{at_most};
 
 use std::alloc::{AllocError, Global};

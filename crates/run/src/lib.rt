@@ -3,8 +3,6 @@
 #![tactic(auto)]
 
 ghost use Rattle.std.specs.Prelude.{◌≡◌, true, ◌≤◌, length, Some};
-ghost use Rattle.screen.specs.Plane.{plane_bytes};
-ghost use Rattle.screen.specs.Draw.{pixels};
 ghost use Rattle.store.specs.Slots.{slots_ok};
 ghost use Rattle.store.specs.declared.Kind.TheVariants as kind;
 ghost use Rattle.command.specs.declared.Command.TheVariants.{Paints};
@@ -18,6 +16,7 @@ ghost use Rattle.run.specs.Sound.{Sound};
 use command::{Command, Draw, command_of};
 use execute::{after_load, after_set};
 use framing::Frame;
+use screen::plane::{PIXELS, PLANE_BYTES};
 use state::State;
 use verdict::unknown;
 
@@ -27,17 +26,14 @@ fn painted(
     draw: Draw,
     s: State,
     f: Frame,
-    plane: &mut [u8],
-    depth: &mut [i32],
-    depth_f32: &mut [f32],
+    plane: &mut [u8; PLANE_BYTES],
+    depth: &mut [i32; PIXELS],
+    depth_f32: &mut [f32; PIXELS],
     command: &[u32],
     textures: &[u32],
     models: &[u32],
 ) -> Frame
     requires opcode_value { command_of f.opcode ≡ Some (Paints draw) }
-    requires plane_len { length plane.old ≡ plane_bytes }
-    requires depth_len { length depth.old ≡ pixels }
-    requires depth_f32_len { length depth_f32.old ≡ pixels }
     requires gathered_in_bounds { f.gathered ≤ length command.now }
     requires textures_value { slots_ok kind.Texture (length textures.now) 0 s.textures ≡ true }
     requires models_value { slots_ok kind.Model (length models.now) 0 s.models ≡ true }
@@ -66,9 +62,9 @@ fn painted(
 pub fn run_words(
     state: State,
     words: &[u32],
-    plane: &mut [u8],
-    depth: &mut [i32],
-    depth_f32: &mut [f32],
+    plane: &mut [u8; PLANE_BYTES],
+    depth: &mut [i32; PIXELS],
+    depth_f32: &mut [f32; PIXELS],
     command: &mut [u32],
     textures: &mut [u32],
     models: &mut [u32],

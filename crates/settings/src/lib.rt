@@ -41,8 +41,7 @@ impl Settings {
 }
 
 #[tactic(auto, unfolding(crate::specs::Settings::mode_verdict))]
-fn mode_verdict(p: &[u32]) -> Verdict
-    requires { length p.now ≡ 2 }
+fn mode_verdict(p: &[u32; 2]) -> Verdict
     ensures { result ≡ mode_verdict p.now }
 {
     payload::at_most(p, 0, 1)?;
@@ -50,8 +49,7 @@ fn mode_verdict(p: &[u32]) -> Verdict
 }
 
 #[tactic(auto, unfolding(crate::specs::Settings::with_mode))]
-fn with_mode(s: Settings, p: &[u32]) -> Settings
-    requires { length p.now ≡ 2 }
+fn with_mode(s: Settings, p: &[u32; 2]) -> Settings
     ensures { result ≡ with_mode s p.now }
 {
     let mut after = s;
@@ -64,8 +62,7 @@ fn with_mode(s: Settings, p: &[u32]) -> Settings
 }
 
 // Command 01: word 0 says whether word 1 is the shading mode or switches lighting.
-pub fn set_mode(s: Settings, p: &[u32]) -> Verdict<Settings>
-    requires { length p.now ≡ 2 }
+pub fn set_mode(s: Settings, p: &[u32; 2]) -> Verdict<Settings>
     ensures { result ≡ passed (mode_verdict p.now) (with_mode s p.now) }
 {
     mode_verdict(p)?;
@@ -73,17 +70,15 @@ pub fn set_mode(s: Settings, p: &[u32]) -> Verdict<Settings>
 }
 
 #[tactic(auto, unfolding(crate::specs::Settings::matrix_verdict))]
-fn matrix_verdict(p: &[u32]) -> Verdict
-    requires { length p.now ≡ 17 }
+fn matrix_verdict(p: &[u32; 17]) -> Verdict
     ensures { result ≡ matrix_verdict p.now }
 {
     payload::at_most(p, 0, 2)?;
     payload::finite_from(p, 1, 16)
 }
 
-fn with_matrix(s: Settings, p: &[u32]) -> Settings
-    requires p_len { length p.now ≡ 17 }
-    requires p_bound { get_or p.now 0 0 ≤ 2 }
+fn with_matrix(s: Settings, p: &[u32; 17]) -> Settings
+    requires { get_or p.now 0 0 ≤ 2 }
     ensures { result ≡ with_matrix s p.now }
 {
     let mut after = s;
@@ -93,8 +88,7 @@ fn with_matrix(s: Settings, p: &[u32]) -> Settings
 }
 
 // Command 02: the matrix's number, and its sixteen cells row by row.
-pub fn set_matrix(s: Settings, p: &[u32]) -> Verdict<Settings>
-    requires { length p.now ≡ 17 }
+pub fn set_matrix(s: Settings, p: &[u32; 17]) -> Verdict<Settings>
     ensures { result ≡ passed (matrix_verdict p.now) (with_matrix s p.now) }
 {
     matrix_verdict(p)?;
@@ -102,8 +96,7 @@ pub fn set_matrix(s: Settings, p: &[u32]) -> Verdict<Settings>
 }
 
 #[tactic(auto, unfolding(crate::specs::Settings::light_verdict))]
-fn light_verdict(p: &[u32]) -> Verdict
-    requires { length p.now ≡ 17 }
+fn light_verdict(p: &[u32; 17]) -> Verdict
     ensures { result ≡ light_verdict p.now }
 {
     payload::at_most(p, 0, 7)?;
@@ -111,8 +104,7 @@ fn light_verdict(p: &[u32]) -> Verdict
     payload::finite_from(p, 2, 15)
 }
 
-fn light_of(p: &[u32]) -> Light
-    requires { length p.now ≡ 17 }
+fn light_of(p: &[u32; 17]) -> Light
     ensures { result ≡ light_of p.now }
 {
     Light {
@@ -126,9 +118,8 @@ fn light_of(p: &[u32]) -> Light
 }
 
 #[tactic(auto, unfolding(crate::specs::Settings::with_light))]
-fn with_light(s: Settings, p: &[u32]) -> Settings
-    requires p_len { length p.now ≡ 17 }
-    requires p_bound { get_or p.now 0 0 ≤ 7 }
+fn with_light(s: Settings, p: &[u32; 17]) -> Settings
+    requires { get_or p.now 0 0 ≤ 7 }
     ensures { result ≡ with_light s p.now }
 {
     let i = p[0] as usize;
@@ -138,8 +129,7 @@ fn with_light(s: Settings, p: &[u32]) -> Settings
 }
 
 // Command 15: the light's number, its switch, and its fifteen floats.
-pub fn set_light(s: Settings, p: &[u32]) -> Verdict<Settings>
-    requires { length p.now ≡ 17 }
+pub fn set_light(s: Settings, p: &[u32; 17]) -> Verdict<Settings>
     ensures { result ≡ passed (light_verdict p.now) (with_light s p.now) }
 {
     light_verdict(p)?;

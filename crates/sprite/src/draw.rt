@@ -1,19 +1,18 @@
 // A sprite that was not refused, copied row by row. What is off the screen is cut off before the
 // loops, so no pixel is tested for being on it.
-ghost use Rattle.std.specs.Prelude.{◌≡◌, ◌+◌, ◌*◌, length};
+ghost use Rattle.std.specs.Prelude.{◌≡◌, ◌+◌, ◌*◌};
 ghost use Rattle.laws.specs.Cells.{map_range};
-ghost use Rattle.screen.specs.Plane.{width, height, plane_bytes};
+ghost use Rattle.screen.specs.Plane.{width, height};
 ghost use Rattle.sprite.specs.Sprite.{place_of, sprite_byte, sprite_plane};
 ghost use Rattle.sprite.specs.Spans.{Reached, AtRow, AtPixel};
 
 use crate::cutout::Cutout;
 use crate::span::{Span, span_of};
 use crate::tone::write_texel;
-use screen::plane::{VPU_HEIGHT, VPU_WIDTH};
+use screen::plane::{PLANE_BYTES, VPU_HEIGHT, VPU_WIDTH};
 
 // Texel n, over the pixel (x, y). With alpha 0 it leaves the pixel as it is.
-fn draw_texel(plane: &mut [u8], cut: Cutout, x: usize, y: usize, n: usize)
-    requires plane_len { length plane.old ≡ plane_bytes }
+fn draw_texel(plane: &mut [u8; PLANE_BYTES], cut: Cutout, x: usize, y: usize, n: usize)
     requires at_pixel { AtPixel cut.sprite x y }
     requires n_value { n ≡ place_of cut.sprite x y }
     ensures { plane.new ≡ map_range (sprite_byte cut.entry.sprite cut.entry.texels.now) ((y * width + x) * 4) ((y * width + x) * 4 + 4) plane.old }
@@ -25,8 +24,7 @@ fn draw_texel(plane: &mut [u8], cut: Cutout, x: usize, y: usize, n: usize)
 }
 
 // Row `row` of the texture, to row y of the screen.
-fn draw_row(plane: &mut [u8], cut: Cutout, columns: Span, y: usize, row: usize)
-    requires plane_len { length plane.old ≡ plane_bytes }
+fn draw_row(plane: &mut [u8; PLANE_BYTES], cut: Cutout, columns: Span, y: usize, row: usize)
     requires reached { Reached cut.sprite.x cut.sprite.width width columns }
     requires at_row { AtRow cut.sprite y row }
     ensures { plane.new ≡ map_range (sprite_byte cut.entry.sprite cut.entry.texels.now) (y * width * 4) ((y * width + width) * 4) plane.old }
@@ -37,8 +35,7 @@ fn draw_row(plane: &mut [u8], cut: Cutout, columns: Span, y: usize, row: usize)
     }
 }
 
-fn draw_rows(plane: &mut [u8], cut: Cutout, columns: Span, rows: Span)
-    requires plane_len { length plane.old ≡ plane_bytes }
+fn draw_rows(plane: &mut [u8; PLANE_BYTES], cut: Cutout, columns: Span, rows: Span)
     requires reached { Reached cut.sprite.x cut.sprite.width width columns }
     requires reached_2 { Reached cut.sprite.y cut.sprite.height height rows }
     ensures { plane.new ≡ sprite_plane cut.entry.sprite cut.entry.texels.now plane.old }
@@ -54,8 +51,7 @@ fn draw_rows(plane: &mut [u8], cut: Cutout, columns: Span, rows: Span)
     }
 }
 
-pub fn draw(plane: &mut [u8], cut: Cutout)
-    requires { length plane.old ≡ plane_bytes }
+pub fn draw(plane: &mut [u8; PLANE_BYTES], cut: Cutout)
     ensures { plane.new ≡ sprite_plane cut.entry.sprite cut.entry.texels.now plane.old }
 {
     let columns = span_of(cut.sprite.x, cut.sprite.width, VPU_WIDTH);

@@ -3,12 +3,12 @@
 #![tactic(auto)]
 
 ghost use Rattle.std.specs.Prelude.{◌≡◌, true, length, get_or};
-ghost use Rattle.screen.specs.Plane.{plane_bytes};
 ghost use Rattle.store.specs.Slots.{slots_ok, look_in};
 ghost use Rattle.store.specs.declared.Kind.TheVariants as kind;
 ghost use Rattle.sprite.specs.Words.{sprite_verdict, sprite_drawn};
 
 use crate::cutout::Cutout;
+use screen::plane::PLANE_BYTES;
 use store::{Kind, SLOTS, Slot};
 use verdict::{Verdict, not_held};
 
@@ -20,8 +20,12 @@ pub mod words;
 
 // Neither depth buffer is lent: a sprite cannot read or write one.
 #[tactic(auto, unfolding(crate::specs::Words::sprite_verdict, crate::specs::Words::sprite_drawn))]
-pub fn draw_sprite(plane: &mut [u8], p: &[u32], slots: [Slot; SLOTS], textures: &[u32]) -> Verdict
-    requires plane_len { length plane.old ≡ plane_bytes }
+pub fn draw_sprite(
+    plane: &mut [u8; PLANE_BYTES],
+    p: &[u32],
+    slots: [Slot; SLOTS],
+    textures: &[u32],
+) -> Verdict
     requires p_len { length p.now ≡ 7 }
     requires slots_value { slots_ok kind.Texture (length textures.now) 0 slots ≡ true }
     ensures value { result ≡ sprite_verdict p.now (look_in kind.Texture slots textures.now (get_or p.now 0 0)) }

@@ -1,15 +1,16 @@
 // A texel on the screen. Its channels have the values 0, 17, 34 and so on, for which the dither takes
 // fewer steps than for any colour.
-ghost use Rattle.std.specs.Prelude.{◌≡◌, ◌+◌, ◌*◌, ◌<◌, length};
+ghost use Rattle.std.specs.Prelude.{◌≡◌, ◌+◌, ◌*◌, ◌<◌};
 ghost use Rattle.laws.specs.Cells.{map_range};
 ghost use Rattle.screen.specs.Dither.{dither_of};
-ghost use Rattle.screen.specs.Plane.{width, height, plane_bytes, paint};
+ghost use Rattle.screen.specs.Plane.{width, height, paint};
 ghost use Rattle.texel.specs.Texel.{nibbles_of};
 
 use screen::dither::threshold;
-use screen::plane::VPU_WIDTH;
+use screen::plane::{PLANE_BYTES, VPU_WIDTH};
 
 // `rgb555_dither` for a digit of a texel, which stands for 17 times as much.
+// Stays: with `rgb555_dither` itself a pixel takes 1.7 times as long (docs/DECISIONS.md, "Speed").
 fn tone(digit: u32, threshold: u32) -> u8
     requires { (digit < 16) × (threshold < 16) }
     ensures { result ≡ dither_of (digit * 17) threshold }
@@ -21,8 +22,7 @@ fn tone(digit: u32, threshold: u32) -> u8
 }
 
 // `write_pixel` for the sixteen bits of a texel.
-pub fn write_texel(plane: &mut [u8], x: usize, y: usize, texel: u32)
-    requires plane_len { length plane.old ≡ plane_bytes }
+pub fn write_texel(plane: &mut [u8; PLANE_BYTES], x: usize, y: usize, texel: u32)
     requires x_lt_width { (x < width) × (y < height) }
     requires texel_bound { texel < 65536 }
     ensures { plane.new ≡ map_range (paint (nibbles_of texel)) ((y * width + x) * 4) ((y * width + x) * 4 + 4) plane.old }

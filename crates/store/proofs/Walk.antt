@@ -118,7 +118,7 @@ module _ (ss : List Slot) (i : ℕ) (here : i < length ss) where
       go true true e = rw e (append-nil (kept k n i ss))
       go true false e = rw e
 
-  -- the crate formed: fresh_from, unused_from
+  -- the crate formed: fresh, unused
   pub fresh_end : (n : ℕ) → s.held ≡ false → fresh n (drop i ss) ≡ true
   fresh_end n a = rw (slots-from, a)
 

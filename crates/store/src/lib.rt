@@ -26,6 +26,8 @@ pub enum Kind {
 // all zero.
 #[derive(Clone, Copy, Debug, PartialEq, Eq)]
 pub struct Slot {
+    // Stays: a switch beside values, since a state that is handed in is given back as it came, also one
+    // whose unused slot is not all zero (`in_out`, `out_in` of plain).
     pub held: bool,
     pub number: u32,
     pub width: u32,

@@ -2,8 +2,6 @@
 #![tactic(auto)]
 
 ghost use Rattle.std.specs.Prelude.{◌≡◌, ◌≤◌, length};
-ghost use Rattle.screen.specs.Plane.{plane_bytes};
-ghost use Rattle.screen.specs.Draw.{pixels};
 ghost use Rattle.clip.specs.Polygons.{fan};
 ghost use Rattle.clip.specs.Vertices.{room, of};
 ghost use Rattle.stroke.specs.Strokes.{sheet, triangle_on, fan_on, stroke, stroke_on, Stored};
@@ -11,12 +9,14 @@ ghost use Rattle.stroke.specs.Strokes.{sheet, triangle_on, fan_on, stroke, strok
 use clip::polygon::Polygon;
 use clip::vertex::ClipVertex;
 use raster::ink::Color;
+use screen::plane::{PIXELS, PLANE_BYTES};
 
 // How a texture is laid on: its sides, the mode of 18, 19 and 1B, and the flat colour of mode 1.
 #[derive(Clone, Copy, Debug, PartialEq)]
 pub struct Texture {
     pub width: u32,
     pub height: u32,
+    // Stays: the word of the payload, since `textured_brush` and `tone_of` speak of every number.
     pub mode: u32,
     pub color: Color,
 }
@@ -31,14 +31,12 @@ pub enum Brush {
 
 #[tactic(auto, unfolding(crate::specs::Strokes::triangle_on))]
 fn paint_triangle(
-    plane: &mut [u8],
-    depth_f32: &mut [f32],
+    plane: &mut [u8; PLANE_BYTES],
+    depth_f32: &mut [f32; PIXELS],
     tri: [ClipVertex; 3],
     brush: Brush,
     texels: &[u32],
 )
-    requires plane_len { length plane.old ≡ plane_bytes }
-    requires depth_f32_len { length depth_f32.old ≡ pixels }
     requires stored { Stored brush (length texels.now) }
     ensures { sheet plane.new depth_f32.new ≡ triangle_on brush texels.now tri (sheet plane.old depth_f32.old) }
 {
@@ -58,14 +56,12 @@ fn paint_triangle(
 
 // The polygon's first vertex with each two neighbours after it.
 fn paint_fan(
-    plane: &mut [u8],
-    depth_f32: &mut [f32],
+    plane: &mut [u8; PLANE_BYTES],
+    depth_f32: &mut [f32; PIXELS],
     polygon: Polygon,
     brush: Brush,
     texels: &[u32],
 )
-    requires plane_len { length plane.old ≡ plane_bytes }
-    requires depth_f32_len { length depth_f32.old ≡ pixels }
     requires stored { Stored brush (length texels.now) }
     requires count_le_room { polygon.count ≤ room }
     ensures { sheet plane.new depth_f32.new ≡ fan_on brush texels.now (fan (of polygon)) (sheet plane.old depth_f32.old) }
@@ -79,14 +75,12 @@ fn paint_fan(
 
 // The whole of it. A triangle that no plane cuts is painted as it is.
 pub fn paint(
-    plane: &mut [u8],
-    depth_f32: &mut [f32],
+    plane: &mut [u8; PLANE_BYTES],
+    depth_f32: &mut [f32; PIXELS],
     tri: [ClipVertex; 3],
     brush: Brush,
     texels: &[u32],
 )
-    requires plane_len { length plane.old ≡ plane_bytes }
-    requires depth_f32_len { length depth_f32.old ≡ pixels }
     requires stored { Stored brush (length texels.now) }
     ensures { sheet plane.new depth_f32.new ≡ stroke_on (stroke tri brush texels.now) (sheet plane.old depth_f32.old) }
 {

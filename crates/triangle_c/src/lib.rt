@@ -9,14 +9,18 @@ ghost use Rattle.raster.specs.Ink.{Texture};
 
 use clip::vertex::ClipVertex;
 use raster::ink::Color;
+use screen::plane::{PIXELS, PLANE_BYTES};
 use vertex_c::record::vertex;
 
 // 0 if the triangle is drawn, else one more than the index of the word that is refused.
+// Stays: a number, as `triangle_c_c` exports it.
 pub fn triangle_flat(plane: &mut [u8], depth: &mut [i32], p: &[u32]) -> u32
     requires plane_len { length plane.old ≡ plane_bytes }
     requires depth_len { length depth.old ≡ pixels }
     requires p_len { length p.now ≡ 11 }
 {
+    let plane = <&mut [u8; PLANE_BYTES]>::try_from(plane).unwrap();
+    let depth = <&mut [i32; PIXELS]>::try_from(depth).unwrap();
     match flat::draw_flat_triangle(plane, depth, p) {
         Ok(()) => 0,
         Err(refused) => refused.index.wrapping_add(1),
@@ -46,6 +50,8 @@ pub fn triangle_transformed(plane: &mut [u8], depth_f32: &mut [f32], x: &[f32], 
     requires depth_f32_len { length depth_f32.old ≡ pixels }
     requires in_bounds { 48 ≤ length x.now }
 {
+    let plane = <&mut [u8; PLANE_BYTES]>::try_from(plane).unwrap();
+    let depth_f32 = <&mut [f32; PIXELS]>::try_from(depth_f32).unwrap();
     let color = if flat.len() < 4 {
         None
     } else {
@@ -71,6 +77,8 @@ pub fn triangle_textured(
     requires texture { Texture width height (length texels.now) }
     requires in_bounds_2 { 4 ≤ length flat.now }
 {
+    let plane = <&mut [u8; PLANE_BYTES]>::try_from(plane).unwrap();
+    let depth_f32 = <&mut [f32; PIXELS]>::try_from(depth_f32).unwrap();
     raster::rasterize_textured_triangle(
         plane,
         depth_f32,

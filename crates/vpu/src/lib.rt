@@ -2,9 +2,11 @@
 // `reset`, `feed` and `pixel`.
 #![tactic(auto)]
 
-ghost use Rattle.std.specs.Prelude.{◌≡◌};
+ghost use Rattle.std.specs.Prelude.{◌≡◌, length};
 ghost use Rattle.screen.specs.Plane.{answered, pixel_of};
-ghost use Rattle.execute.specs.Kept.{machine};
+ghost use Rattle.execute.specs.Kept.{machine, as_box};
+ghost use Rattle.run.specs.Framing.{run};
+ghost use Rattle.run.specs.Sound.{Sound};
 ghost use Rattle.vpu.specs.Calls.{number_of, outcome, lengths_ok, reset, feed};
 
 use screen::plane::{PIXELS, PLANE_BYTES, Rgba, WrongLength};
@@ -98,6 +100,29 @@ pub fn reset(
     }
 }
 
+// The lengths have been tested: from here on the picture is arrays, which have them by their types.
+fn run_words(
+    state: State,
+    words: &[u32],
+    plane: &mut [u8],
+    depth: &mut [i32],
+    depth_f32: &mut [f32],
+    command: &mut [u32],
+    textures: &mut [u32],
+    models: &mut [u32],
+) -> State
+    requires { Sound state (length plane.old) (length depth.old) (length depth_f32.old) (length command.old) (length textures.old) (length models.old) }
+    ensures { machine result plane.new depth.new depth_f32.new command.new textures.new models.new
+        ≡ run as_box (machine state plane.old depth.old depth_f32.old command.old textures.old models.old) words.now }
+{
+    let plane = plane.as_mut_array::<PLANE_BYTES>().unwrap();
+    let depth = depth.as_mut_array::<PIXELS>().unwrap();
+    let depth_f32 = depth_f32.as_mut_array::<PIXELS>().unwrap();
+    run::run_words(
+        state, words, plane, depth, depth_f32, command, textures, models,
+    )
+}
+
 // A run of words, possibly none. A state that is not well formed is answered and left alone.
 pub fn feed(
     state: State,
@@ -133,7 +158,7 @@ pub fn feed(
             state,
         };
     }
-    let after = run::run_words(
+    let after = run_words(
         state, words, plane, depth, depth_f32, command, textures, models,
     );
     Fed {

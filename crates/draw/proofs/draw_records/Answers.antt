@@ -1,5 +1,5 @@
 -- Record after record. Assumes nothing.
-use Rattle.std.proofs.Common.{◌∙◌, rules}
+use Rattle.std.proofs.Common.{◌∙◌}
 use Rattle.draw.proofs.Laws.{and_is, left_next, left_none}
 use Rattle.draw.proofs.draw_records.Goals as goal
 
@@ -11,7 +11,7 @@ loop-record-preserved c =
     let next = left_next _ _ _ _ _ _ _ _ c.draw_judged-one.result _ _ _ inv.left front.1.0 (front.1.1 ∙ inv.size)
     (rw is at c.draw_judged-one.ensures.value) (rw is at c.draw_judged-one.ensures.depth_f32_after) in
     let joined = c.and-verdict.ensures ∙ and_is c.loop-record.verdict c.draw_judged-one.result in
-    record { size = front.0 ∙ inv.size; left = rw joined next; plane_len = search rules; depth_f32_len = search rules }
+    record { size = front.0 ∙ inv.size; left = rw joined next }
 
 pub returns-clause-value : goal.returns-clause-value
 returns-clause-value c = let inv = c.loop-record.invariant in

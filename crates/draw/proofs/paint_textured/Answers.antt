@@ -5,9 +5,9 @@ use Rattle.store.proofs.Places.{part_is, part_long}
 use Rattle.draw.proofs.Laws.{textured_stored, textured_painted_lem}
 use Rattle.draw.proofs.paint_textured.Goals as goal
 
-pub paint-requires-clause-stored : goal.paint-requires-clause-stored
-paint-requires-clause-stored c =
-    textured_stored _ _ _ _ _ _ c.textured_brush-brush.ensures c.requires.height_value (part_long c.args.textures.now c.args.slot.start c.area-size.result _ c.area-size.ensures c.requires.height_in_bounds)
+pub paint-requires : goal.paint-requires
+paint-requires c =
+    record { stored = textured_stored _ _ _ _ _ _ c.textured_brush-brush.ensures c.requires.height_value (part_long c.args.textures.now c.args.slot.start c.area-size.result _ c.area-size.ensures c.requires.height_in_bounds) }
 
 pub returns : goal.returns
 returns c = let slot = c.args.slot in

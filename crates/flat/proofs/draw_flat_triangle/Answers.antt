@@ -4,8 +4,8 @@ use Rattle.flat.specs.Words.{flat_depths, flat_plane}
 use Rattle.flat.proofs.Placed.{done-placed}
 use Rattle.flat.proofs.draw_flat_triangle.Goals as goal
 
-pub draw_tri-requires-clause-placed : goal.draw_tri-requires-clause-placed
-draw_tri-requires-clause-placed c = rw c.tri_of.ensures (done-placed c.args.p.now c.type_inv.p (sym c.verdict_of.ensures ∙ c.in_ok-verdict_of.was))
+pub draw_tri-requires : goal.draw_tri-requires
+draw_tri-requires c = rw c.tri_of.ensures (done-placed c.args.p.now c.type_inv.p (sym c.verdict_of.ensures ∙ c.in_ok-verdict_of.was))
 
 pub returns-in_err-verdict_of-clause-depth_after : goal.returns-in_err-verdict_of-clause-depth_after
 unfolding flat_depths

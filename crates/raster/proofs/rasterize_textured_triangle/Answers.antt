@@ -5,7 +5,7 @@ use Rattle.raster.proofs.Inks.{stored_textured}
 use Rattle.raster.proofs.rasterize_textured_triangle.Goals as goal
 
 pub draw-requires : goal.draw-requires
-draw-requires c = record { plane_len = c.requires.plane_len; depth_len = c.requires.depth_f32_len; stored = rw c.textured_ink-ink.ensures (stored_textured c.args.tri c.args.width c.args.height c.args.mode c.args.flat_color _ c.requires.texture); on_screen = c.set_up-setup.ensures.1 }
+draw-requires c = record { stored = rw c.textured_ink-ink.ensures (stored_textured c.args.tri c.args.width c.args.height c.args.mode c.args.flat_color _ c.requires.texture); on_screen = c.set_up-setup.ensures.1 }
 
 pub returns : goal.returns
 unfolding textured_depths textured_plane

@@ -5,7 +5,7 @@ use Rattle.raster.proofs.Inks.{stored_transformed}
 use Rattle.raster.proofs.rasterize_transformed_triangle.Goals as goal
 
 pub draw-requires : goal.draw-requires
-draw-requires c = record { plane_len = c.requires.plane_len; depth_len = c.requires.depth_f32_len; stored = rw c.transformed_ink-ink.ensures (stored_transformed c.args.tri c.args.flat _); on_screen = c.set_up-setup.ensures.1 }
+draw-requires c = record { stored = rw c.transformed_ink-ink.ensures (stored_transformed c.args.tri c.args.flat _); on_screen = c.set_up-setup.ensures.1 }
 
 pub returns : goal.returns
 unfolding transformed_depths transformed_plane

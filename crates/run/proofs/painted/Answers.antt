@@ -10,7 +10,7 @@ slice_bounds-paint-end c = sym (length-take-le c.args.f.gathered c.args.command.
 
 pub paint-verdict-requires : goal.paint-verdict-requires
 paint-verdict-requires c = let p = c.requires in
-    record { plane_len = p.plane_len; depth_len = p.depth_len; depth_f32_len = p.depth_f32_len; slots_value = p.textures_value; model_slots_value = p.models_value }
+    record { slots_value = p.textures_value; model_slots_value = p.models_value }
 
 pub returns : goal.returns
 returns c = let s = c.args.s in

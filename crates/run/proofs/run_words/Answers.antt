@@ -89,9 +89,6 @@ painted-f-requires c =
     let r = held_runs c.loop-w.invariant (turn at.In-Some) c.take_word-f.ensures.value c.take_word-f.ensures.command_after refl in
     record {
       opcode_value = sym c.command_of.ensures ∙ paints at.In-Some-Paints;
-      plane_len = r.of-plane;
-      depth_len = r.of-depth;
-      depth_f32_len = r.of_floats;
       gathered_in_bounds = r.within;
       textures_value = r.of-textures.ok;
       models_value = r.of-models.ok;
@@ -100,7 +97,7 @@ painted-f-requires c =
 pub loop-w-preserved-in-Some-Paints : goal.loop-w-preserved-in-Some-Paints
 loop-w-preserved-in-Some-Paints c =
     let at = goal.at.loop-w-preserved-in-Some-Paints c in
-    held-painted c.loop-w.invariant (turn at.In-Some) c.take_word-f.ensures.value c.take_word-f.ensures.command_after (sym c.ready.ensures ∙ c.if-ready.true) c.painted-f.ensures c.painted-f.auto.plane c.painted-f.auto.depth c.painted-f.auto.depth_f32
+    held-painted c.loop-w.invariant (turn at.In-Some) c.take_word-f.ensures.value c.take_word-f.ensures.command_after (sym c.ready.ensures ∙ c.if-ready.true) c.painted-f.ensures (search rules) (search rules) (search rules)
 
 pub loop-w-preserved-in-None : goal.loop-w-preserved-in-None
 loop-w-preserved-in-None c =

@@ -3,5 +3,5 @@ use mathlib.Core.Path.{sym, ◌∙◌}
 use Rattle.settings.proofs.Changes.{light_number}
 use Rattle.settings.proofs.set_light.Goals as goal
 
-pub with_light-requires-clause-p_bound : goal.with_light-requires-clause-p_bound
-with_light-requires-clause-p_bound c = light_number _ (sym c.light_verdict.ensures ∙ c.in_ok-light_verdict.was)
+pub with_light-requires : goal.with_light-requires
+with_light-requires c = light_number _ (sym c.light_verdict.ensures ∙ c.in_ok-light_verdict.was)

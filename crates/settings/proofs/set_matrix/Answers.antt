@@ -3,5 +3,5 @@ use mathlib.Core.Path.{sym, ◌∙◌}
 use Rattle.settings.proofs.Changes.{matrix_number}
 use Rattle.settings.proofs.set_matrix.Goals as goal
 
-pub with_matrix-requires-clause-p_bound : goal.with_matrix-requires-clause-p_bound
-with_matrix-requires-clause-p_bound c = matrix_number _ (sym c.matrix_verdict.ensures ∙ c.in_ok-matrix_verdict.was)
+pub with_matrix-requires : goal.with_matrix-requires
+with_matrix-requires c = matrix_number _ (sym c.matrix_verdict.ensures ∙ c.in_ok-matrix_verdict.was)

@@ -10,7 +10,7 @@ use borrow.Author.Rules.{rules}
 use Rattle.stroke.proofs.paint.Goals as goal
 
 pub paint_fan-requires : goal.paint_fan-requires
-paint_fan-requires c = record { plane_len = c.requires.plane_len; depth_f32_len = c.requires.depth_f32_len; stored = c.requires.stored; count_le_room = c.clip_all.ensures.few }
+paint_fan-requires c = record { stored = c.requires.stored; count_le_room = c.clip_all.ensures.few }
 
 pub returns-then-inside : goal.returns-then-inside
 unfolding stroke_on fan_on

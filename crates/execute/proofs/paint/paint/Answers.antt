@@ -17,22 +17,22 @@ returns-then-p-draw_words c = let both = by_length _ _ _ _ (λ e. c.if-p-draw_wo
     record { value = both.0; depth_f32_after = both.1 }
 
 pub clear-requires : goal.clear-requires
-clear-requires c = record { plane_len = c.requires.plane_len; p_len = long (goal.at.clear-requires c).Else-p-draw_words ∙ ap draw_words c.in-Clear.is }
+clear-requires c = long (goal.at.clear-requires c).Else-p-draw_words ∙ ap draw_words c.in-Clear.is
 
 pub draw_sprite-requires : goal.draw_sprite-requires
-draw_sprite-requires c = record { plane_len = c.requires.plane_len; p_len = long (goal.at.draw_sprite-requires c).Else-p-draw_words ∙ ap draw_words c.in-Sprite.is; slots_value = c.requires.slots_value }
+draw_sprite-requires c = record { p_len = long (goal.at.draw_sprite-requires c).Else-p-draw_words ∙ ap draw_words c.in-Sprite.is; slots_value = c.requires.slots_value }
 
 pub draw_flat_triangle-requires : goal.draw_flat_triangle-requires
-draw_flat_triangle-requires c = record { plane_len = c.requires.plane_len; depth_len = c.requires.depth_len; p_len = long (goal.at.draw_flat_triangle-requires c).Else-p-draw_words ∙ ap draw_words c.in-Flat.is }
+draw_flat_triangle-requires c = long (goal.at.draw_flat_triangle-requires c).Else-p-draw_words ∙ ap draw_words c.in-Flat.is
 
 pub draw_transformed_triangle-requires : goal.draw_transformed_triangle-requires
-draw_transformed_triangle-requires c = record { plane_len = c.requires.plane_len; depth_f32_len = c.requires.depth_f32_len; p_len = long (goal.at.draw_transformed_triangle-requires c).Else-p-draw_words ∙ ap draw_words c.in-Transformed.is ∙ transformed_words c.in-Transformed.has_normal }
+draw_transformed_triangle-requires c = long (goal.at.draw_transformed_triangle-requires c).Else-p-draw_words ∙ ap draw_words c.in-Transformed.is ∙ transformed_words c.in-Transformed.has_normal
 
 pub draw_textured_triangle-requires : goal.draw_textured_triangle-requires
-draw_textured_triangle-requires c = record { plane_len = c.requires.plane_len; depth_f32_len = c.requires.depth_f32_len; p_len = long (goal.at.draw_textured_triangle-requires c).Else-p-draw_words ∙ ap draw_words c.in-Textured.is ∙ textured_words c.in-Textured.has_normal; slots_value = c.requires.slots_value }
+draw_textured_triangle-requires c = record { p_len = long (goal.at.draw_textured_triangle-requires c).Else-p-draw_words ∙ ap draw_words c.in-Textured.is ∙ textured_words c.in-Textured.has_normal; slots_value = c.requires.slots_value }
 
 pub draw_model-requires : goal.draw_model-requires
-draw_model-requires c = record { plane_len = c.requires.plane_len; depth_f32_len = c.requires.depth_f32_len; p_len = long (goal.at.draw_model-requires c).Else-p-draw_words ∙ ap draw_words c.in-Model.is; slots_value = c.requires.slots_value; model_slots_value = c.requires.model_slots_value }
+draw_model-requires c = record { p_len = long (goal.at.draw_model-requires c).Else-p-draw_words ∙ ap draw_words c.in-Model.is; slots_value = c.requires.slots_value; model_slots_value = c.requires.model_slots_value }
 
 pub returns-in-Clear : goal.returns-in-Clear
 returns-in-Clear c = let both = by_draw _ _ _ _ (long (goal.at.returns-in-Clear c).Else-p-draw_words) _ c.in-Clear.is _ _ _ c.clear.ensures.value c.clear.ensures.depth_f32_after in

@@ -4,7 +4,7 @@ use mathlib.Core.Bool.{true, false}
 use Prim.Native.Nat.{ℕ, ◌+◌, ◌*◌}
 use native.Mathlib.Omega.{arith}
 use lib.IntN.{ℤ, pos}
-use lib.ListN.{get_or}
+use lib.ListN.{get_or, length}
 use lib.Signed.{lt_z}
 use mir.Syntax.{w32, w64}
 use mir.Val.{SFits, to_z, of_z}
@@ -34,14 +34,15 @@ weighted-d-requires c = let s = c.args.s in
     rw (c.requires.w_value, area_read s) (weighed s.placed c.args.x c.args.y c.requires.x_lt_width.0 c.requires.x_lt_width.1 c.requires.y_value)
 
 pub returns-then-d-old : goal.returns-then-d-old
-returns-then-d-old c = let k = c.args.y * width + c.args.x in
+returns-then-d-old c = let long : length c.args.depth.now ≡ 76800 = search rules in
+    let k = c.args.y * width + c.args.x in
     let D = c.args.depth.now in
     let d = c.weighted-d.result in
     let fd : SFits w32 d = sfits_of c.weighted-d.type_inv in
     let fo : SFits w32 (get_or D k (pos 0)) = search rules in
     let n : lt_z d (get_or D k (pos 0)) ≡ true = simp to_z-of_z at c.if-d-old.true in
     simp to_z-of_z
-    (drawn-new c.args.s.tri c.args.x c.args.y k D c.args.plane.now c.requires.x_lt_width.0 refl c.requires.y_value d _ (is-depth c.args.s c.args.x c.args.y c.args.w d c.requires.w_value c.weighted-d.ensures) n (omega (arith, c.requires.depth_len, c.requires.x_lt_width.0, c.requires.x_lt_width.1)) c.write_pixel.ensures)
+    (drawn-new c.args.s.tri c.args.x c.args.y k D c.args.plane.now c.requires.x_lt_width.0 refl c.requires.y_value d _ (is-depth c.args.s c.args.x c.args.y c.args.w d c.requires.w_value c.weighted-d.ensures) n (omega (arith, long, c.requires.x_lt_width.0, c.requires.x_lt_width.1)) c.write_pixel.ensures)
 
 pub returns-else-d-old : goal.returns-else-d-old
 returns-else-d-old c = let k = c.args.y * width + c.args.x in

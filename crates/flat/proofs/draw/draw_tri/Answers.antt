@@ -9,6 +9,7 @@ use lib.ListN.{length}
 use lib.Signed.{lt_z}
 use mir.Syntax.{w64}
 use mir.Val.{to_z, of_z}
+use borrow.Author.Rules.{rules}
 use Rattle.screen.specs.Plane.{plane_bytes}
 use Rattle.screen.specs.Draw.{pixels}
 use Rattle.screen.proofs.Draw.{drawn-all}
@@ -33,29 +34,29 @@ back_placed : {t b : Tri} → b ≡ turned_of t → Placed t → Placed b
 back_placed e p = rw e (turned_placed p)
 
 pub returns-then-area-gt0 : goal.returns-then-area-gt0
-returns-then-area-gt0 c = let (d, q) = whole c.args.t c.requires.depth_len c.requires.plane_len (rw c.new.ensures at c.draw_rows.ensures) in
+returns-then-area-gt0 c = let (d, q) = whole c.args.t (search rules) (search rules) (rw c.new.ensures at c.draw_rows.ensures) in
     record { depth_after = d; plane_after = q }
 
 pub area_of-area-requires-then-area-lt0 : goal.area_of-area-requires-then-area-lt0
-area_of-area-requires-then-area-lt0 c = back_placed c.turned-back.ensures c.requires.placed
+area_of-area-requires-then-area-lt0 c = back_placed c.turned-back.ensures c.requires
 
 pub new-requires-then-area-lt0-clause-placed : goal.new-requires-then-area-lt0-clause-placed
-new-requires-then-area-lt0-clause-placed c = back_placed c.turned-back.ensures c.requires.placed
+new-requires-then-area-lt0-clause-placed c = back_placed c.turned-back.ensures c.requires
 
 pub new-requires-then-area-lt0-clause-upward : goal.new-requires-then-area-lt0-clause-upward
 new-requires-then-area-lt0-clause-upward c = let t = c.args.t in
-    let down : lt_z (area_of t) (pos 0) ≡ true = rw (read_as (area-fits c.requires.placed) c.area_of-area.ensures) at c.if-area-lt0.true in
+    let down : lt_z (area_of t) (pos 0) ≡ true = rw (read_as (area-fits c.requires) c.area_of-area.ensures) at c.if-area-lt0.true in
     rw (c.turned-back.ensures, turned_area t) (turned_up (area_of t) down)
 
 pub returns-then-area-lt0 : goal.returns-then-area-lt0
 returns-then-area-lt0 c = let t = c.args.t in
-    let down : lt_z (area_of t) (pos 0) ≡ true = rw (read_as (area-fits c.requires.placed) c.area_of-area.ensures) at c.if-area-lt0.true in
-    let (d, q) = whole c.args.t c.requires.depth_len c.requires.plane_len (turned_drawn t down (rw (c.new-then-area-lt0.ensures, c.turned-back.ensures) at c.draw_rows-then-area-lt0.ensures)) in
+    let down : lt_z (area_of t) (pos 0) ≡ true = rw (read_as (area-fits c.requires) c.area_of-area.ensures) at c.if-area-lt0.true in
+    let (d, q) = whole c.args.t (search rules) (search rules) (turned_drawn t down (rw (c.new-then-area-lt0.ensures, c.turned-back.ensures) at c.draw_rows-then-area-lt0.ensures)) in
     record { depth_after = d; plane_after = q }
 
 -- ---- no area
 pub returns-else-area-lt0 : goal.returns-else-area-lt0
 returns-else-area-lt0 c = let t = c.args.t in
-    let e : to_z w64 (of_z w64 c.area_of-area.result) ≡ area_of t = read_as (area-fits c.requires.placed) c.area_of-area.ensures in
-    let (d, q) = whole c.args.t c.requires.depth_len c.requires.plane_len (drawn-clear t 0 pixels c.args.depth.now c.args.plane.now (λ k p q. no_area t _ _ (rw e at c.if-area-gt0.false) (rw e at c.if-area-lt0.false))) in
+    let e : to_z w64 (of_z w64 c.area_of-area.result) ≡ area_of t = read_as (area-fits c.requires) c.area_of-area.ensures in
+    let (d, q) = whole c.args.t (search rules) (search rules) (drawn-clear t 0 pixels c.args.depth.now c.args.plane.now (λ k p q. no_area t _ _ (rw e at c.if-area-gt0.false) (rw e at c.if-area-lt0.false))) in
     record { depth_after = d; plane_after = q }

@@ -18,7 +18,7 @@ is_bary s =
 
 is-depth : (m : After-mix-z) → depth_at m.args.f m.args.x m.args.y ≡ m.mix-z.result
 is-depth m =
-    depth_is m.args.f m.args.x m.args.y (is_bary m.before.before.before.before.before.before.before.before.before) m.mix-z.ensures
+    depth_is m.args.f m.args.x m.args.y (is_bary m.before.before.before.before.before.before.before) m.mix-z.ensures
 
 pub returns-then-passes : goal.returns-then-passes
 returns-then-passes c = let i = c.requires.inside in
@@ -27,7 +27,7 @@ returns-then-passes c = let i = c.requires.inside in
     drawn-new c.args.texels.now c.args.ink c.args.f c.args.x c.args.y k c.args.depth.now c.args.plane.now i.in_x refl _ c.shade_at.result _
     (shows_by c.args.f c.args.x c.args.y (get_or c.args.depth.now k nan) i.in_box c.requires.y_value (is-depth (goal.at.returns-then-passes c).After-mix-z) n) (is-depth (goal.at.returns-then-passes c).After-mix-z)
     (sym (c.shade_at.ensures ∙ ap (λ (g : Corners). shade_of c.args.texels.now c.args.ink g c.args.f.inv_w) (is_bary (goal.at.returns-then-passes c).Start)))
-    (omega (arith, c.requires.ready.of-depth, i.in_x, i.in_y)) c.put.ensures
+    (omega (arith, i.in_x, i.in_y)) c.put.ensures
 
 pub returns-else-passes : goal.returns-else-passes
 returns-else-passes c = let i = c.requires.inside in

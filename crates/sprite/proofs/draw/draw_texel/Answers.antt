@@ -17,7 +17,7 @@ pub half-texel-requires : goal.half-texel-requires
 half-texel-requires c = rw c.requires.n_value (in_texture c.args.cut.sprite c.args.cut.placed c.args.x c.args.y c.requires.at_pixel.under_x c.requires.at_pixel.under_y)
 
 pub write_texel-requires : goal.write_texel-requires
-write_texel-requires c = record { plane_len = c.requires.plane_len; x_lt_width = (c.requires.at_pixel.in_row, c.requires.at_pixel.on_screen); texel_bound = c.half-texel.ensures.1 }
+write_texel-requires c = record { x_lt_width = (c.requires.at_pixel.in_row, c.requires.at_pixel.on_screen); texel_bound = c.half-texel.ensures.1 }
 
 pub returns-then-texel-ne0 : goal.returns-then-texel-ne0
 returns-then-texel-ne0 c = pixel_painted _ _ _ _ c.requires.at_pixel _ (is_texel (goal.at.returns-then-texel-ne0 c).After-half-texel) _ (alpha_some c.half-texel.result c.if-texel-ne0.true) c.write_texel.ensures

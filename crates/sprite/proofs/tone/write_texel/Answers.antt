@@ -2,7 +2,8 @@
 use mathlib.Core.Path.{◌≡◌, ◌∙◌, sym, ap, refl}
 use Prim.Native.Nat.{ℕ, ◌<◌}
 use native.Mathlib.Omega.{arith}
-use lib.ListN.{length-set}
+use borrow.Author.Rules.{rules}
+use lib.ListN.{length}
 use Rattle.laws.proofs.Cells.{set-four}
 use Rattle.screen.specs.Dither.{dither_of}
 use Rattle.screen.specs.Plane.{paint}
@@ -22,21 +23,13 @@ tone-requires c = (omega arith, small c)
 pub tone-requires-2 : goal.tone-requires-2
 tone-requires-2 c = (omega arith, small (goal.at.tone-requires-2 c).After-threshold-t)
 
-pub bounds-plane-index-2 : goal.bounds-plane-index-2
-bounds-plane-index-2 c = simp length-set (omega arith)
-
 pub tone-requires-3 : goal.tone-requires-3
 tone-requires-3 c = (omega arith, small (goal.at.tone-requires-3 c).After-threshold-t)
 
-pub bounds-plane-index-3 : goal.bounds-plane-index-3
-bounds-plane-index-3 c = simp length-set (omega arith)
-
-pub bounds-plane-index-4 : goal.bounds-plane-index-4
-bounds-plane-index-4 c = simp length-set (omega arith)
-
 pub returns : goal.returns
 unfolding paint nibbles_of
-returns c = let at = shown-at (nibbles_of c.args.texel) c.args.x c.args.y in
+returns c = let long : length c.args.plane.now ≡ 307200 = search rules in
+    let at = shown-at (nibbles_of c.args.texel) c.args.x c.args.y in
     let under : (v : ℕ) → dither_of v c.threshold-t.result ≡ dither_of v _ = λ v. ap (dither_of v) c.threshold-t.ensures in
     set-four 0 (paint (nibbles_of c.args.texel)) _ _ _ _ _ c.args.plane.now (omega arith)
     (at _ 0 (omega arith) (omega arith) (omega arith) ∙ sym (c.tone.ensures ∙ under _))
