@@ -44,20 +44,14 @@ static void watch_begin(void *from, size_t bytes) {
 
 static void watch_end(void) { allow(0, watch.bytes, PROT_READ | PROT_WRITE); }
 
-// The pages of these words, and no others, were written in one pass. The C library's copy writes its first bytes last, and its fill may write its
-// last bytes first. So the page at which what was copied begins, and that at which it ends, may be noted once more each, after others.
-static bool one_pass(size_t first, size_t end, size_t copied, size_t copied_end) {
-    size_t words = watch.page / sizeof(uint32_t), from = first / words, pages = first < end ? (end - 1) / words - from + 1 : 0, next = 0;
-    bool begun = false, ended = false;
-    for (size_t i = 0; i < watch.count; i++) {
-        size_t at = watch.noted[i];
-        bool past = from <= at && at < from + next;
-        if (next < pages && at == from + next) next++;
-        else if (past && !begun && at == copied / words) begun = true;
-        else if (past && !ended && at == copied_end / words) ended = true;
-        else return false;
+// The pages of these words, and no others, were written in one pass.
+static bool one_pass(size_t first, size_t end) {
+    size_t words = watch.page / sizeof(uint32_t), from = first / words, pages = first < end ? (end - 1) / words - from + 1 : 0;
+    if (watch.count != pages) return false;
+    for (size_t i = 0; i < pages; i++) {
+        if (watch.noted[i] != from + i) return false;
     }
-    return next == pages;
+    return true;
 }
 
 // Writes a byte of each of the first pages, as often as told, from the first to the last or back.
@@ -74,9 +68,9 @@ static void watched_passes(void *from, size_t bytes, int times, bool back) {
 static bool watch_tells(void *from, size_t bytes) {
     watched_passes(from, bytes, 1, false);
     size_t words = watch.page / sizeof(uint32_t), end = TRIED * words;
-    bool right = one_pass(0, end, 0, 0) && one_pass(words - 1, end - words + 1, 0, 0) && !one_pass(words, end, 0, 0) && !one_pass(0, end - words, 0, 0);
+    bool right = one_pass(0, end) && one_pass(words - 1, end - words + 1) && !one_pass(words, end) && !one_pass(0, end - words);
     watched_passes(from, bytes, 2, false);
-    right = right && !one_pass(0, end, 0, 0);
+    right = right && !one_pass(0, end);
     watched_passes(from, bytes, 1, true);
-    return right && !one_pass(0, end, 0, 0);
+    return right && !one_pass(0, end);
 }

@@ -9,9 +9,9 @@ use crate::{Kind, NoRoom, SLOTS, Slot};
 pub fn find(slots: [Slot; SLOTS], number: u32) -> Option<Slot>
     ensures { result ≡ slot_for number slots }
 {
-    for s in slots {
+    for s in &slots {
         if s.held && s.number == number {
-            return Some(s);
+            return Some(*s);
         }
     }
     None

@@ -38,19 +38,26 @@ fn move_down(store: &mut [u32], to: usize, from: usize, end: usize) -> usize
 }
 
 // The words are there from `at` on afterwards; the rest stays.
+// Stays: a loop writes them from the first to the last, each once. std's copy is the C library's
+// `memmove`, which may write the first bytes last, and which a host would have to bring.
 pub fn write_at(store: &mut [u32], at: usize, words: &[u32])
     requires { at + length words.now ≤ length store.old }
     ensures { store.new ≡ paste store.old at words.now (length words.now) }
 {
-    store[at..at + words.len()].copy_from_slice(words);
+    for i in 0..words.len() {
+        store[at + i] = words[i];
+    }
 }
 
 // The n words from `at` on are zero afterwards; the rest stays.
+// Stays: a loop, as in `write_at`.
 fn clear(store: &mut [u32], at: usize, n: usize)
     requires { at + n ≤ length store.old }
     ensures { store.new ≡ paste store.old at (replicate n 0) n }
 {
-    store[at..at + n].fill(0);
+    for i in 0..n {
+        store[at + i] = 0;
+    }
 }
 
 // The words are there from `at` on afterwards, then zeros up to `old`; the rest stays.
