@@ -82,11 +82,13 @@ pub fn run_words(
         if f.ready() {
             match command_of(f.opcode) {
                 Some(Command::Sets(setting)) => {
-                    s = after_set(setting, f.into_state(s), command);
+                    s = f.into_state(s);
+                    after_set(setting, &mut s, command);
                     f = Frame::from(s);
                 }
                 Some(Command::Loads(kind)) => {
-                    s = after_load(kind, f.into_state(s), command, textures, models);
+                    s = f.into_state(s);
+                    after_load(kind, &mut s, command, textures, models);
                     f = Frame::from(s);
                 }
                 Some(Command::Paints(d)) => {

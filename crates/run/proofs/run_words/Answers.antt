@@ -10,7 +10,7 @@ use Rattle.execute.proofs.Told.{sets_blank, loads_blank}
 use Rattle.execute.proofs.Laws.{because-is}
 use Rattle.run.proofs.Laws.{held_start, held_takes, held_word, held_runs, held-is, held-command, held-painted, held-unknown, held_fits, held-gathered, held_end}
 use Rattle.run.proofs.run_words.Goals as goal
-use Rattle.run.proofs.run_words.Goals.{In-Some, After-into_state, After-into_state-in-Some-Loads, In-Some-Sets, In-Some-Loads, In-Some-Paints}
+use Rattle.run.proofs.run_words.Goals.{In-Some, After-into_state-s, After-into_state-s-in-Some-Loads, In-Some-Sets, In-Some-Loads, In-Some-Paints}
 
 -- the word at hand and those behind it are what was left
 turn : (c : In-Some) → c.loop-w.left.now ≡ c.in-Some.field-0-0.now ∷ c.in-Some.rest.now
@@ -27,17 +27,17 @@ paints : (c : In-Some-Paints) → c.command_of.result ≡ Some (Paints c.in-Some
 paints c = cc
 
 -- a state's arrays of slots have their length by their type
-set-textures : (c : After-into_state) → length c.into_state.result.textures ≡ 64
-set-textures c = c.into_state.type_inv.1.1.1.0.1.0.1
+set-textures : (c : After-into_state-s) → length c.into_state-s.result.textures ≡ 64
+set-textures c = c.into_state-s.type_inv.1.1.1.0.1.0.1
 
-set-models : (c : After-into_state) → length c.into_state.result.models ≡ 64
-set-models c = c.into_state.type_inv.1.1.1.1.0.1.0.1
+set-models : (c : After-into_state-s) → length c.into_state-s.result.models ≡ 64
+set-models c = c.into_state-s.type_inv.1.1.1.1.0.1.0.1
 
-load-textures : (c : After-into_state-in-Some-Loads) → length c.into_state-in-Some-Loads.result.textures ≡ 64
-load-textures c = c.into_state-in-Some-Loads.type_inv.1.1.1.0.1.0.1
+load-textures : (c : After-into_state-s-in-Some-Loads) → length c.into_state-s-in-Some-Loads.result.textures ≡ 64
+load-textures c = c.into_state-s-in-Some-Loads.type_inv.1.1.1.0.1.0.1
 
-load-models : (c : After-into_state-in-Some-Loads) → length c.into_state-in-Some-Loads.result.models ≡ 64
-load-models c = c.into_state-in-Some-Loads.type_inv.1.1.1.1.0.1.0.1
+load-models : (c : After-into_state-s-in-Some-Loads) → length c.into_state-s-in-Some-Loads.result.models ≡ 64
+load-models c = c.into_state-s-in-Some-Loads.type_inv.1.1.1.1.0.1.0.1
 
 pub loop-w-init : goal.loop-w-init
 loop-w-init c = held_start _ _ _ _ _ _ _ _ c.requires c.from-f.ensures (λ i. omega (arith, c.type_inv.words i))
@@ -47,28 +47,28 @@ take_word-f-requires c = let h = c.loop-w.invariant in
     record { wanted_in_bounds = held_takes h; command_len = h.sound.of-command }
 
 -- the turn, if the command sets
-pub after_set-s-requires : goal.after_set-s-requires
-after_set-s-requires c =
-    let at = goal.at.after_set-s-requires c in
+pub after_set-requires : goal.after_set-requires
+after_set-requires c =
+    let at = goal.at.after_set-requires c in
     record {
-      opcode_value = held-is c.loop-w.invariant (turn at.In-Some) c.take_word-f.ensures.value c.take_word-f.ensures.command_after c.into_state.ensures c.command_of.ensures (sets at.In-Some-Sets);
-      gathered_in_bounds = (held_runs c.loop-w.invariant (turn at.In-Some) c.take_word-f.ensures.value c.take_word-f.ensures.command_after c.into_state.ensures).within;
+      opcode_value = held-is c.loop-w.invariant (turn at.In-Some) c.take_word-f.ensures.value c.take_word-f.ensures.command_after c.into_state-s.ensures c.command_of.ensures (sets at.In-Some-Sets);
+      gathered_in_bounds = (held_runs c.loop-w.invariant (turn at.In-Some) c.take_word-f.ensures.value c.take_word-f.ensures.command_after c.into_state-s.ensures).within;
     }
 
 pub loop-w-preserved-in-Some-Sets : goal.loop-w-preserved-in-Some-Sets
 loop-w-preserved-in-Some-Sets c =
     let at = goal.at.loop-w-preserved-in-Some-Sets c in
-    held-command c.loop-w.invariant (turn at.In-Some) c.take_word-f.ensures.value c.take_word-f.ensures.command_after (sym c.ready.ensures ∙ c.if-ready.true) c.into_state.ensures
-    (sets_blank as_box _ _ (held-is c.loop-w.invariant (turn at.In-Some) c.take_word-f.ensures.value c.take_word-f.ensures.command_after c.into_state.ensures c.command_of.ensures (sets at.In-Some-Sets)))
-    (c.after_set-s.ensures _ _) refl refl (set-textures at.After-into_state) (set-models at.After-into_state) c.from-f-in-Some-Sets.ensures
+    held-command c.loop-w.invariant (turn at.In-Some) c.take_word-f.ensures.value c.take_word-f.ensures.command_after (sym c.ready.ensures ∙ c.if-ready.true) c.into_state-s.ensures
+    (sets_blank as_box _ _ (held-is c.loop-w.invariant (turn at.In-Some) c.take_word-f.ensures.value c.take_word-f.ensures.command_after c.into_state-s.ensures c.command_of.ensures (sets at.In-Some-Sets)))
+    (c.after_set.ensures _ _) refl refl (set-textures at.After-into_state-s) (set-models at.After-into_state-s) c.from-f-in-Some-Sets.ensures
 
 -- the turn, if it loads
-pub after_load-s-requires : goal.after_load-s-requires
-after_load-s-requires c =
-    let at = goal.at.after_load-s-requires c in
-    let r = held_runs c.loop-w.invariant (turn at.In-Some) c.take_word-f.ensures.value c.take_word-f.ensures.command_after c.into_state-in-Some-Loads.ensures in
+pub after_load-requires : goal.after_load-requires
+after_load-requires c =
+    let at = goal.at.after_load-requires c in
+    let r = held_runs c.loop-w.invariant (turn at.In-Some) c.take_word-f.ensures.value c.take_word-f.ensures.command_after c.into_state-s-in-Some-Loads.ensures in
     record {
-      opcode_value = held-is c.loop-w.invariant (turn at.In-Some) c.take_word-f.ensures.value c.take_word-f.ensures.command_after c.into_state-in-Some-Loads.ensures c.command_of.ensures (loads at.In-Some-Loads);
+      opcode_value = held-is c.loop-w.invariant (turn at.In-Some) c.take_word-f.ensures.value c.take_word-f.ensures.command_after c.into_state-s-in-Some-Loads.ensures c.command_of.ensures (loads at.In-Some-Loads);
       gathered_in_bounds = r.within;
       command_len = r.of-command;
       formed = r.of-textures;
@@ -78,9 +78,9 @@ after_load-s-requires c =
 pub loop-w-preserved-in-Some-Loads : goal.loop-w-preserved-in-Some-Loads
 loop-w-preserved-in-Some-Loads c =
     let at = goal.at.loop-w-preserved-in-Some-Loads c in
-    held-command c.loop-w.invariant (turn at.In-Some) c.take_word-f.ensures.value c.take_word-f.ensures.command_after (sym c.ready.ensures ∙ c.if-ready.true) c.into_state-in-Some-Loads.ensures
-    (loads_blank as_box _ _ (held-is c.loop-w.invariant (turn at.In-Some) c.take_word-f.ensures.value c.take_word-f.ensures.command_after c.into_state-in-Some-Loads.ensures c.command_of.ensures (loads at.In-Some-Loads)))
-    c.after_load-s.ensures c.after_load-s.auto.textures c.after_load-s.auto.models (load-textures at.After-into_state-in-Some-Loads) (load-models at.After-into_state-in-Some-Loads) c.from-f-in-Some-Loads.ensures
+    held-command c.loop-w.invariant (turn at.In-Some) c.take_word-f.ensures.value c.take_word-f.ensures.command_after (sym c.ready.ensures ∙ c.if-ready.true) c.into_state-s-in-Some-Loads.ensures
+    (loads_blank as_box _ _ (held-is c.loop-w.invariant (turn at.In-Some) c.take_word-f.ensures.value c.take_word-f.ensures.command_after c.into_state-s-in-Some-Loads.ensures c.command_of.ensures (loads at.In-Some-Loads)))
+    c.after_load.ensures c.after_load.auto.textures c.after_load.auto.models (load-textures at.After-into_state-s-in-Some-Loads) (load-models at.After-into_state-s-in-Some-Loads) c.from-f-in-Some-Loads.ensures
 
 -- the turn, if it paints
 pub painted-f-requires : goal.painted-f-requires
@@ -118,4 +118,4 @@ loop-w-preserved c =
     held-gathered h c.between.ensures c.split_at.ensures.front c.split_at.ensures.back c.gather-f.ensures.value c.gather-f.ensures.command_after
 
 pub returns : goal.returns
-returns c = held_end c.loop-w.invariant (search rules) c.into_state-2.ensures
+returns c = held_end c.loop-w.invariant (search rules) c.into_state.ensures
