@@ -99,17 +99,19 @@ const PLAIN: Layout = Layout {
     textured: true,
 };
 
-// 18.
+// 18. A corner is worked out only once those before it have passed.
 #[tactic(auto, unfolding(crate::specs::Verdicts::checked_verdict, crate::specs::Verdicts::textured_by, crate::specs::Verdicts::plain_of, crate::specs::Corners::corners_of, crate::specs::Corners::corners_by, crate::specs::Corners::normal_matrix_of))]
 fn plain(p: &[u32], m: &[f32; 48]) -> Verdict<[ClipVertex; 3]>
     requires { length p.now ≡ 20 }
     ensures { result ≡ passed (checked_verdict p.now false m.now) (corners_of p.now false true m.now) }
 {
-    let tri = corners(p, PLAIN, m, NO_MATRIX);
-    for (i, v) in tri.iter().enumerate() {
-        plain_vertex(p, *v, PLAIN.first_word(i))?;
-    }
-    Ok(tri)
+    let v0 = corner(p, 2, PLAIN, m, NO_MATRIX);
+    plain_vertex(p, v0, 2)?;
+    let v1 = corner(p, 8, PLAIN, m, NO_MATRIX);
+    plain_vertex(p, v1, 8)?;
+    let v2 = corner(p, 14, PLAIN, m, NO_MATRIX);
+    plain_vertex(p, v2, 14)?;
+    Ok([v0, v1, v2])
 }
 
 // 18, and with normals 19, whose mode is in range and whose texture is held.

@@ -87,14 +87,14 @@ fn paint_textured(
     depth_f32: &mut [f32; PIXELS],
     corners: [ClipVertex; 3],
     has_normal: bool,
-    s: Settings,
+    s: &Settings,
     mode: u32,
     slot: Slot,
     textures: &[u32],
 )
     requires height_value { sides_ok kind.Texture slot.width slot.height ≡ true }
     requires height_in_bounds { slot.start + area_of kind.Texture slot.width slot.height ≤ length textures.now }
-    ensures { sheet plane.new depth_f32.new ≡ stroke_on (textured_stroke s mode has_normal corners (upload_at kind.Texture slot textures.now)) (sheet plane.old depth_f32.old) }
+    ensures { sheet plane.new depth_f32.new ≡ stroke_on (textured_stroke s.now mode has_normal corners (upload_at kind.Texture slot textures.now)) (sheet plane.old depth_f32.old) }
 {
     let tri = lit::textured_lit(corners, has_normal, s.lighting_enabled, mode, &s.lights);
     let brush = textured_brush(slot, mode, tri);
@@ -110,24 +110,24 @@ fn draw_judged<F: FnOnce() -> Option<Matrix3>>(
     depth_f32: &mut [f32; PIXELS],
     p: &[u32],
     has_normal: bool,
-    s: Settings,
+    s: &Settings,
     inverse: F,
-    slots: [Slot; SLOTS],
+    slots: &[Slot; SLOTS],
     textures: &[u32],
 ) -> Verdict
     requires p_len { length p.now ≡ words_of has_normal true }
     requires inverse_callable { F.IsAlwaysCallable inverse }
-    requires inverse_value { (r : _) → F.post inverse r → r ≡ normal_matrix_of s.matrices has_normal }
-    requires slots_value { slots_ok kind.Texture (length textures.now) 0 slots ≡ true }
-    ensures value { result ≡ textured_verdict p.now has_normal (is_some (look_in kind.Texture slots textures.now (get_or p.now 0 0))) s.matrices }
-    ensures depth_f32_after { sheet plane.new depth_f32.new ≡ strokes_on (textured_strokes s p.now has_normal (look_in kind.Texture slots textures.now (get_or p.now 0 0))) (sheet plane.old depth_f32.old) }
+    requires inverse_value { (r : _) → F.post inverse r → r ≡ normal_matrix_of s.now.matrices has_normal }
+    requires slots_value { slots_ok kind.Texture (length textures.now) 0 slots.now ≡ true }
+    ensures value { result ≡ textured_verdict p.now has_normal (is_some (look_in kind.Texture slots.now textures.now (get_or p.now 0 0))) s.now.matrices }
+    ensures depth_f32_after { sheet plane.new depth_f32.new ≡ strokes_on (textured_strokes s.now p.now has_normal (look_in kind.Texture slots.now textures.now (get_or p.now 0 0))) (sheet plane.old depth_f32.old) }
 {
     let Judged { slot, corners } = judge::textured_with(
         p,
         has_normal,
         &s.matrices,
         inverse,
-        slots,
+        *slots,
     )?;
     paint_textured(
         plane, depth_f32, corners, has_normal, s, p[1], slot, textures,
@@ -151,7 +151,9 @@ pub fn draw_textured_triangle(
     ensures depth_f32_after { sheet plane.new depth_f32.new ≡ strokes_on (textured_strokes s p.now has_normal (look_in kind.Texture slots textures.now (get_or p.now 0 0))) (sheet plane.old depth_f32.old) }
 {
     let inverse = || normal_matrix(&s.matrices, has_normal);
-    draw_judged(plane, depth_f32, p, has_normal, s, inverse, slots, textures)
+    draw_judged(
+        plane, depth_f32, p, has_normal, &s, inverse, &slots, textures,
+    )
 }
 
 // The records, each painted if it is not refused.
@@ -177,9 +179,9 @@ fn draw_records(
             depth_f32,
             &triangle,
             true,
-            s,
+            &s,
             || inverse,
-            slots,
+            &slots,
             textures,
         );
         verdict = verdict.and(one);
