@@ -1,10 +1,11 @@
 -- The draws that ask for an upload, by what their checks come to: for the proofs of the functions here and in `draw`. Assumes nothing.
-use Prim.Native.Nat.{ℕ, suc, ◌/◌, ◌<◌}
+use Prim.Native.Nat.{ℕ, suc, ◌+◌, ◌-◌, ◌*◌, ◌/◌, ◌<◌, ◌≤◌}
 use mathlib.Core.Path.{◌≡◌, refl, sym, ◌∙◌}
 use mathlib.Core.Bool.{Bool, true}
 use mathlib.Core.List.{List, [], ◌++◌}
 use native.Mathlib.Omega.{arith}
 use lib.ListN.{length, take, drop}
+use lib.Seq.{drop-drop}
 use Rattle.std.proofs.Common.{length-append, length-drop}
 use Rattle.std.proofs.lemmas.List.{take-append-le, drop-append-le}
 use Rattle.std.proofs.Math.ListN.{get_or-append}
@@ -116,20 +117,24 @@ module _ (front rest : List ℕ) (h : length front ≡ 28) where
   unfolding records_verdict
   records_next mode has m = rw (one_more, front_triangle mode, front_word, behind)
 
--- the records of these words, of which `front` is the first: if it is accepted those behind it decide
-module _ (words front rest : List ℕ) {size : ℕ} (e : words ≡ front ++ rest) (long : length front ≡ size) (by : size ≡ 28) (mode : ℕ) (has : ℕ → Bool) (m : List Float)
-    {v : Verdict} (is : v ≡ textured_verdict (triangle_of mode front) true (has (word_at front 0)) m) where
-  next_is : records_verdict mode has m (length words / 28) words ≡ and_then v (records_verdict mode has m (length rest / 28) rest)
-  next_is = rw (e, is) (records_next front rest (long ∙ by) mode has m)
-
-  pub record_done : v ≡ done → records_verdict mode has m (length rest / 28) rest ≡ records_verdict mode has m (length words / 28) words
-  record_done h = rw (next_is, h)
-
-  pub record_refused : {x : Refused} → v ≡ Err x → records_verdict mode has m (length words / 28) words ≡ Err x
-  record_refused h = rw (next_is, h)
-
 pub records_none : (mode : ℕ) (has : ℕ → Bool) (m : List Float) (words : List ℕ) → length words < 28 → records_verdict mode has m (length words / 28) words ≡ done
 unfolding records_verdict
 records_none mode has m words h =
     let none : length words / 28 ≡ 0 = omega arith in
     rw none
+
+-- ---- the same by a record's number: n records, of which those from k on are left
+module _ (mode : ℕ) (has : ℕ → Bool) (m : List Float) (words : List ℕ) (n : ℕ) where
+  pub from_next : (k : ℕ) → k < n → records_verdict mode has m (n - k) (drop (28 * k) words)
+      ≡ and_then (textured_verdict (triangle_of mode (drop (28 * k) words)) true (has (word_at (drop (28 * k) words) 0)) m) (records_verdict mode has m (n - (k + 1)) (drop (28 * (k + 1)) words))
+  unfolding records_verdict
+  from_next k h =
+      let more : n - k ≡ suc (n - (k + 1)) = omega arith in
+      let next : 28 * (k + 1) ≡ 28 * k + 28 = omega arith in
+      rw (more, next) (rw (sym (drop-drop 28 (28 * k) words)))
+
+  pub from_none : (k : ℕ) → n ≤ k → records_verdict mode has m (n - k) (drop (28 * k) words) ≡ done
+  unfolding records_verdict
+  from_none k h =
+      let none : n - k ≡ 0 = omega arith in
+      rw none

@@ -33,12 +33,14 @@ fn record_verdict(p: &[u32; 29], inverse: Option<Matrix3>, slots: [Slot; SLOTS])
 }
 
 // The first refused record gives the verdict.
+// Stays: an index, since by it a record can be taken at a wrong place that is in bounds (the edit
+// `records_of_27_words`).
 fn records(words: &[u32], mode: u32, m: &[f32; 48], slots: [Slot; SLOTS]) -> Verdict
     ensures { result ≡ records_verdict mode (held_in slots) m.now (length words.now / 28) words.now }
 {
     let inverse = normal_matrix(m, true);
-    for record in words.chunks_exact(28) {
-        let triangle = triangle_of(record, mode);
+    for k in 0..words.len() / 28 {
+        let triangle = triangle_of(&words[28 * k..], mode);
         record_verdict(&triangle, inverse, slots)?;
     }
     Ok(())

@@ -1,29 +1,33 @@
 -- Record after record. Assumes nothing.
-use Rattle.std.proofs.Common.{◌≡◌, ◌∙◌, rules, true, sym}
+use Rattle.std.proofs.Common.{◌≡◌, ◌∙◌, ◌*◌, ◌-◌, ◌/◌, ℕ, List, rules, arith, true, sym, length, take, drop, length-drop}
+use Rattle.std.proofs.lemmas.List.{take_all}
 use Rattle.payload.specs.Words.{word_at}
 use Rattle.decide.specs.Verdicts.{textured_verdict, triangle_of}
 use Rattle.judge.specs.Judge.{held_in}
-use Rattle.judge.proofs.Laws.{record_is, record_done, record_refused, records_none}
+use Rattle.judge.proofs.Laws.{record_is, from_next, from_none}
 use Rattle.judge.proofs.model.records.Goals as goal
 use Rattle.judge.proofs.model.records.Goals.{After-record_verdict}
 
-one : (c : After-record_verdict) → c.record_verdict.result ≡ textured_verdict (triangle_of c.args.mode c.in-Some.record.now) true (held_in c.args.slots (word_at c.in-Some.record.now 0)) c.args.m.now
-one c = rw c.triangle_of-triangle.ensures at (c.record_verdict.ensures ∙ record_is c.triangle_of-triangle.result c.args.slots c.args.m.now c.normal_matrix-inverse.ensures)
+rest_is : (words : List ℕ) (n : ℕ) → take (length words - n) (drop n words) ≡ drop n words
+rest_is words n = take_all (length words - n) (drop n words) (omega (arith, length-drop n words))
 
-pub loop-record-preserved : goal.loop-record-preserved
-loop-record-preserved c =
-    let front = c.in-Some.ensures.steps in
-    let inv = c.loop-record.invariant in
-    (front.0 ∙ inv.0, record_done _ _ _ front.1.0 front.1.1 inv.0 c.args.mode (held_in c.args.slots) c.args.m.now (one (goal.at.loop-record-preserved c).After-record_verdict) c.in_ok-record_verdict.was ∙ inv.1)
+-- the record's verdict
+one : (c : After-record_verdict) → let words = drop (28 * c.loop-k.k) c.args.words.now in
+    c.record_verdict.result ≡ textured_verdict (triangle_of c.args.mode words) true (held_in c.args.slots (word_at words 0)) c.args.m.now
+one c =
+    let is = rw (rest_is c.args.words.now (28 * c.loop-k.k)) at c.triangle_of-triangle.ensures in
+    rw is at (c.record_verdict.ensures ∙ record_is c.triangle_of-triangle.result c.args.slots c.args.m.now c.normal_matrix-inverse.ensures)
+
+pub loop-k-preserved : goal.loop-k-preserved
+loop-k-preserved c =
+    let v = sym (one (goal.at.loop-k-preserved c).After-record_verdict) ∙ c.in_ok-record_verdict.was in
+    sym (rw v at (from_next c.args.mode (held_in c.args.slots) c.args.m.now c.args.words.now (length c.args.words.now / 28) c.loop-k.k c.loop-k-test.true)) ∙ c.loop-k.invariant
 
 pub returns-in_err-record_verdict : goal.returns-in_err-record_verdict
 returns-in_err-record_verdict c =
-    let front = c.in-Some.ensures.steps in
-    let inv = c.loop-record.invariant in
-    let r = sym inv.1 ∙ record_refused _ _ _ front.1.0 front.1.1 inv.0 c.args.mode (held_in c.args.slots) c.args.m.now (one (goal.at.returns-in_err-record_verdict c).After-record_verdict) c.in_err-record_verdict.was in
+    let v = sym (one (goal.at.returns-in_err-record_verdict c).After-record_verdict) ∙ c.in_err-record_verdict.was in
+    let r = sym c.loop-k.invariant ∙ (rw v at (from_next c.args.mode (held_in c.args.slots) c.args.m.now c.args.words.now (length c.args.words.now / 28) c.loop-k.k c.loop-k-test.true)) in
     rw r (search rules)
 
 pub returns : goal.returns
-returns c = let end = c.in-None.ensures.steps in
-    let inv = c.loop-record.invariant in
-    sym (records_none c.args.mode (held_in c.args.slots) c.args.m.now _ (rw inv.0 at end.1.0)) ∙ inv.1
+returns c = sym (from_none c.args.mode (held_in c.args.slots) c.args.m.now c.args.words.now (length c.args.words.now / 28) c.loop-k.k (omega (arith, c.loop-k-test.false))) ∙ c.loop-k.invariant

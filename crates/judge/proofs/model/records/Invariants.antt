@@ -1,11 +1,9 @@
 -- Record after record; while none is refused, those that are left decide. Assumes nothing.
-use Rattle.std.proofs.Common.{◌≡◌, ◌/◌, length}
-use Rattle.std.specs.Slice.Iter.{chunks_exact_rest, chunks_exact_size}
+use Rattle.std.proofs.Common.{◌≡◌, ◌-◌, ◌*◌, ◌/◌, length, drop}
 use Rattle.decide.specs.Verdicts.{records_verdict}
 use Rattle.judge.specs.Judge.{held_in}
 use Rattle.judge.proofs.model.records.Given as goal
 
-abbrev pub invariant-loop-record : goal.invariant-loop-record
-invariant-loop-record l = let left = chunks_exact_rest l.record-iterator in
-    (chunks_exact_size l.record-iterator ≡ 28)
-    × (records_verdict l.mode (held_in l.slots) l.m (length left / 28) left ≡ records_verdict l.mode (held_in l.slots) l.m (length l.words / 28) l.words)
+abbrev pub invariant-loop-k : goal.invariant-loop-k
+invariant-loop-k l = let n = length l.words / 28 in
+    records_verdict l.mode (held_in l.slots) l.m (n - l.k) (drop (28 * l.k) l.words) ≡ records_verdict l.mode (held_in l.slots) l.m n l.words
