@@ -67,8 +67,8 @@ pub fn vertex_shade(x: &[f32]) -> [f32; 4]
     requires { 138 ≤ length x.now }
 {
     let albedo = record::cells(x, 0);
-    let position = record::cells(x, 4);
-    let normal = record::cells(x, 7);
+    let position = record::three(x, 4);
+    let normal = record::three(x, 7);
     light::shade_vertex(albedo, position, normal, &record::lights(x))
 }
 
