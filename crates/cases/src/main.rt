@@ -10,7 +10,7 @@ use std::alloc::Global;
 use std::io;
 use std::io::Stdout;
 use trial::line;
-use trial::line::Line;
+use trial::line::{Line, MOST};
 use trial::memories::Memories;
 use trial::plan::Plan;
 
@@ -32,15 +32,16 @@ fn play(
 // The lines, one after the other. One that gives no words goes on with those of the line before.
 fn run(out: &mut Stdout, alloc: Global, text: &[u8]) -> io::Result<()> {
     let mut memories = Memories::new(alloc)?;
-    let mut words = Vec::new(alloc);
+    let mut words = ([0; MOST], 0);
     for text in text.split_inclusive(|b| *b == b'\n') {
         if line::is_line(text) {
             let line = Line::of(text);
-            if let Some(given) = line.words(alloc)? {
+            if let Some(given) = line.words() {
                 words = given;
             }
-            let ops = line.ops(alloc)?;
-            play(out, line, &Plan::of(&ops), &words, &mut memories)?;
+            let (places, count) = &words;
+            let plan = Plan::of(&line.ops());
+            play(out, line, &plan, &places[..*count], &mut memories)?;
         }
     }
     Ok(())

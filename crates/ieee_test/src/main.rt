@@ -17,39 +17,39 @@ fn low(n: usize) -> u32 {
 }
 
 // What the leaf answers at each pattern, as a word.
-fn line<F: Fn(f32) -> u32>(out: Stdout, patterns: &[u32], name: &str, leaf: F) -> io::Result<()>
+fn line<F: Fn(f32) -> u32>(out: Stdout, bytes: &[u8], name: &str, leaf: F) -> io::Result<()>
     requires { F.IsAlwaysCallable leaf }
 {
+    let (patterns, _) = bytes.as_chunks::<4>();
     let mut digest = digest::START;
-    for bits in patterns {
-        digest = digest::word(digest, leaf(float_of(*bits)));
+    for pattern in patterns {
+        let bits = u32::from_le_bytes(*pattern);
+        digest = digest::word(digest, leaf(float_of(bits)));
     }
     println!(out; "{name} {digest:016x}")
 }
 
-fn lines(out: Stdout, patterns: &[u32]) -> io::Result<()> {
-    line(out, patterns, "float_of", |x| bits_of(x))?;
-    line(out, patterns, "is_finite", |x| u32::from(is_finite(x)))?;
-    line(out, patterns, "clamp01", |x| bits_of(clamp01(x)))?;
-    line(out, patterns, "max0", |x| bits_of(max0(x)))?;
-    line(out, patterns, "abs", |x| bits_of(abs(x)))?;
-    line(out, patterns, "tiny", |x| u32::from(tiny(x)))?;
-    line(out, patterns, "floor_i32", |x| floor_i32(x).cast_unsigned())?;
-    line(out, patterns, "ceil_i32", |x| ceil_i32(x).cast_unsigned())?;
-    line(out, patterns, "byte", |x| u32::from(byte(x)))?;
-    line(out, patterns, "unit_byte", |x| u32::from(unit_byte(x)))?;
-    line(out, patterns, "texel1", |x| low(texel(x, 1)))?;
-    line(out, patterns, "texel7", |x| low(texel(x, 7)))?;
-    line(out, patterns, "texel1024", |x| low(texel(x, 1024)))?;
-    line(out, patterns, "first", first)?;
-    line(out, patterns, "past", past)?;
-    line(out, patterns, "sqrt", |x| bits_of(sqrt(x)))
+fn lines(out: Stdout, bytes: &[u8]) -> io::Result<()> {
+    line(out, bytes, "float_of", |x| bits_of(x))?;
+    line(out, bytes, "is_finite", |x| u32::from(is_finite(x)))?;
+    line(out, bytes, "clamp01", |x| bits_of(clamp01(x)))?;
+    line(out, bytes, "max0", |x| bits_of(max0(x)))?;
+    line(out, bytes, "abs", |x| bits_of(abs(x)))?;
+    line(out, bytes, "tiny", |x| u32::from(tiny(x)))?;
+    line(out, bytes, "floor_i32", |x| floor_i32(x).cast_unsigned())?;
+    line(out, bytes, "ceil_i32", |x| ceil_i32(x).cast_unsigned())?;
+    line(out, bytes, "byte", |x| u32::from(byte(x)))?;
+    line(out, bytes, "unit_byte", |x| u32::from(unit_byte(x)))?;
+    line(out, bytes, "texel1", |x| low(texel(x, 1)))?;
+    line(out, bytes, "texel7", |x| low(texel(x, 7)))?;
+    line(out, bytes, "texel1024", |x| low(texel(x, 1024)))?;
+    line(out, bytes, "first", first)?;
+    line(out, bytes, "past", past)?;
+    line(out, bytes, "sqrt", |x| bits_of(sqrt(x)))
 }
 
 fn main(rt: HostRuntime) -> io::Result<()> {
     let mut bytes = vec![in rt.alloc(); 0u8; MOST]?;
-    let mut patterns = vec![in rt.alloc(); 0u32; MOST / 4]?;
     let got = console::read_full(&mut rt.stdin(), &mut bytes)?;
-    let n = words::words_of(&bytes[..got], &mut patterns);
-    lines(rt.stdout(), &patterns[..n])
+    lines(rt.stdout(), &bytes[..got])
 }

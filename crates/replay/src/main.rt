@@ -12,7 +12,7 @@ use machine::Machine;
 use std::alloc::Global;
 use std::io::{Read, Stdout};
 use std::{env, fs, io};
-use tape::Calls;
+use tape::{Calls, LONGEST};
 
 // Words of a store. Some streams fill both to the last word.
 const STORE: usize = 32760;
@@ -20,15 +20,16 @@ const STORE: usize = 32760;
 // Stream after stream.
 fn play(alloc: Global, source: &mut impl Read, out: Stdout) -> io::Result<()> {
     let mut machine = Machine::new(alloc, STORE)?;
+    let mut tape = vec![in alloc; 0; LONGEST]?;
     // A proved loop has to end, and nothing says that a file does.
     for _ in 0..u64::MAX {
-        let Some(tape) = tape::next(alloc, source, out)? else {
+        let Some(n) = tape::next(source, out, &mut tape)? else {
             return Ok(());
         };
-        runs::by_calls(out, &mut machine, Calls(&tape))?;
-        let words = tape::joined(alloc, Calls(&tape))?;
-        runs::in_pieces(out, &mut machine, "whole", &words, tape::LONGEST)?;
-        runs::in_pieces(out, &mut machine, "words", &words, 1)?;
+        runs::by_calls(out, &mut machine, Calls(&tape[..n]))?;
+        let n = tape::joined(&mut tape[..n]);
+        runs::in_pieces(out, &mut machine, "whole", &tape[..n], LONGEST)?;
+        runs::in_pieces(out, &mut machine, "words", &tape[..n], 1)?;
     }
     Ok(())
 }

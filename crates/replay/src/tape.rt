@@ -1,13 +1,16 @@
 // Streams as the file has them, read into a tape of words.
-ghost use Rattle.std.specs.Prelude.{length};
+ghost use Rattle.std.specs.Prelude.{◌≡◌, length, IfOk, IfSome, OnErr};
 ghost use Rattle.std.specs.Iterator.{at_most};
+ghost use Rattle.console.specs.Counts.{IsPrefixLen};
 
-use std::alloc::{AllocError, Global};
 use std::io;
 use std::io::{Read, Stdout, Write};
 
 // How many words the longest stream has that is taken.
 pub const LONGEST: usize = 110000;
+
+// How many words are read at a time.
+const PIECE: usize = 1024;
 
 // The words of each call that a tape has: a count, and as many words, or those that are left.
 #[derive(Drop)]
@@ -27,13 +30,26 @@ impl<'a> Iterator for Calls<'a> {
     }
 }
 
-// Reads the next stream's words, counts and all, and prints its name. None if the file has ended,
-// the stream has no words, or it is longer than what is taken.
-pub fn next(
-    alloc: Global,
-    source: &mut impl Read,
-    mut out: Stdout,
-) -> io::Result<Option<Vec<u32>>> {
+// Reads as many words as there are places; says whether the source had them.
+fn fill(source: &mut impl Read, words: &mut [u32]) -> io::Result<bool> {
+    let mut bytes = [0; PIECE * 4];
+    for piece in words.chunks_mut(PIECE) {
+        let wanted = piece.len() * 4;
+        if console::read_full(source, &mut bytes[..wanted])? < wanted {
+            return Ok(false);
+        }
+        words::words_of(&bytes[..wanted], piece);
+    }
+    Ok(true)
+}
+
+// Reads the next stream's words, counts and all, to the front of the tape, and prints its name.
+// Answers how many they are. None if the file has ended, the stream has no words, or it is longer
+// than the tape.
+pub fn next(source: &mut impl Read, mut out: Stdout, tape: &mut [u32]) -> io::Result<Option<usize>>
+    ensures ok { IfOk result (λ found. IfSome found (λ n. IsPrefixLen n tape.new)) }
+    ensures err { OnErr result (length tape.new ≡ length tape.old) }
+{
     let mut name = [0; 24];
     if console::read_full(source, &mut name)? < name.len() {
         return Ok(None);
@@ -44,28 +60,35 @@ pub fn next(
     let mut count = [0; 4];
     console::read_full(source, &mut count)?;
     let n = u32::from_le_bytes(count) as usize;
-    if n > LONGEST {
+    if n > tape.len() {
         println!(out; "too long")?;
         return Ok(None);
     }
-    let mut bytes = vec![in alloc; 0; n * 4]?;
-    if console::read_full(source, &mut bytes)? < bytes.len() {
+    if !fill(source, &mut tape[..n])? {
         println!(out; "cut short")?;
         return Ok(None);
     }
     if n == 0 {
         return Ok(None);
     }
-    let mut words = vec![in alloc; 0; n]?;
-    words::words_of(&bytes, &mut words);
-    Ok(Some(words))
+    Ok(Some(n))
 }
 
-// The words without the counts among them.
-pub fn joined(alloc: Global, calls: Calls) -> Result<Vec<u32>, AllocError> {
-    let mut all = Vec::new(alloc);
-    for words in calls {
-        all.extend_from_slice(words)?;
+// Moves the words, without the counts among them, to the front. Answers how many they are.
+pub fn joined(tape: &mut [u32]) -> usize
+    ensures { IsPrefixLen result tape.new }
+{
+    let mut to = 0;
+    let mut left = 0;
+    for at in 0..tape.len() {
+        let word = tape[at];
+        if left == 0 {
+            left = word;
+        } else {
+            tape[to] = word;
+            to += 1;
+            left -= 1;
+        }
     }
-    Ok(all)
+    to
 }

@@ -1,11 +1,14 @@
 // The table's text: what a line writes, its operations after a bar, its words after a semicolon.
-ghost use Rattle.std.specs.Prelude.{◌≡◌, ◌-◌, ◌<◌, ◌==◌, take, drop, position, IfOk, IfSome, vec_len};
+ghost use Rattle.std.specs.Prelude.{◌≡◌, ◌-◌, ◌<◌, ◌==◌, take, drop, position, IfSome};
 ghost use Rattle.trial.specs.Table.{end_of, is_line};
 
-use std::alloc::{AllocError, Global};
+use std::array;
 
 // The most letters and numbers, or words, that a line has.
-const MOST: usize = 64;
+pub const MOST: usize = 64;
+
+// An operation has up to six numbers, so it begins before this place.
+pub const OPS: usize = MOST - 5;
 
 // The place of the first b.
 fn place(text: &[u8], b: u8) -> Option<usize>
@@ -139,24 +142,22 @@ impl<'a> Line<'a> {
         }
     }
 
-    pub fn ops(self, alloc: Global) -> Result<Vec<Op>, AllocError> {
+    // The operation that begins at each place, if one does.
+    pub fn ops(self) -> [Option<Op>; OPS] {
         let (tokens, _) = tokens_of(self.operations);
-        tokens
-            .array_windows()
-            .filter_map(|six| Op::of(six))
-            .collect(alloc)
+        array::from_fn(|k| Op::of(tokens[k..].first_chunk()?))
     }
 
-    // The words that are to be fed, if the line gives any.
-    pub fn words(self, alloc: Global) -> Result<Option<Vec<u32>>, AllocError>
-        ensures { IfOk result (λ words. IfSome words (λ v. vec_len v < 64)) }
+    // The words that are to be fed, in the first places, and how many they are, if the line gives
+    // any.
+    pub fn words(self) -> Option<([u32; MOST], usize)>
+        ensures { IfSome result (λ words. words.1 < 64) }
     {
         if self.words.is_empty() {
-            return Ok(None);
+            return None;
         }
         let (tokens, count) = tokens_of(self.words);
-        let numbers = tokens.iter().take(count).map(|t| t.number);
-        Ok(Some(numbers.collect(alloc)?))
+        Some((tokens.map(|t| t.number), count))
     }
 }
 
@@ -169,7 +170,6 @@ mod tests {
     fn a_line_is_read(rt: HostRuntime) -> Result<(), Fail> {
         let line = Line::of(b"a {S} | n1 5 r ; 5 x1f\n");
         assert_eq!(rt; line.written, b"a {S}".as_slice());
-        let ops = line.ops(rt.alloc())?;
         let n = Op {
             letter: b'n',
             numbers: [1, 5, 0, 0, 0, 0],
@@ -178,9 +178,13 @@ mod tests {
             letter: b'r',
             numbers: [0; 6],
         };
-        assert_eq!(rt; ops.as_slice(), [n, r].as_slice());
-        let words = line.words(rt.alloc())?.ok_or("no words")?;
-        assert_eq!(rt; words.as_slice(), [5, 31].as_slice());
+        let mut ops = [None; OPS];
+        ops[0] = Some(n);
+        ops[2] = Some(r);
+        assert_eq!(rt; line.ops(), ops);
+        let (words, count) = line.words().ok_or("no words")?;
+        assert_eq!(rt; count, 2);
+        assert_eq!(rt; words.first_chunk(), Some(&[5, 31]));
         Ok(())
     }
 }

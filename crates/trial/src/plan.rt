@@ -55,9 +55,10 @@ impl Plan {
         state: State::FRESH,
     };
 
-    pub fn of(ops: &[Op]) -> Plan {
+    // The operations, in the order of their places.
+    pub fn of(ops: &[Option<Op>]) -> Plan {
         let mut plan = Plan::USUAL;
-        for op in ops {
+        for op in ops.iter().flatten() {
             plan.take(*op);
         }
         if plan.reset {
