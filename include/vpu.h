@@ -16,7 +16,7 @@
  *   - nothing else reads or writes them while the call runs;
  *   - floats round to nearest, and subnormals are kept: the processor's state at the start of a program. It is
  *     another if the host is linked with -ffast-math or changes the rounding;
- *   - 64 kilobytes of stack are left (the calls took 62 at most on the stored streams: examples/stack.c);
+ *   - 64 kilobytes of stack are left (the calls took 53 at most on the stored streams: examples/stack.c);
  *   - the compiler lays the structs below out as the archive's does (examples/layout.c tries every field);
  *   - from a reset answered 0 on, each feed gets the state that the call before it gave back, and the memory
  *     as that call left it. (A host may change either: every call still has an answer, and does to that
