@@ -1,6 +1,7 @@
 -- Record after record. Assumes nothing.
 use Rattle.std.proofs.Common.{◌≡◌, ◌∙◌, ◌*◌, ◌-◌, ◌/◌, ℕ, List, rules, arith, true, sym, length, take, drop, length-drop}
 use Rattle.std.proofs.lemmas.List.{take_all}
+use mathlib.Core.Path.{ap}
 use Rattle.payload.specs.Words.{word_at}
 use Rattle.decide.specs.Verdicts.{textured_verdict, triangle_of}
 use Rattle.judge.specs.Judge.{held_in}
@@ -15,7 +16,7 @@ rest_is words n = take_all (length words - n) (drop n words) (omega (arith, leng
 one : (c : After-record_verdict) → let words = drop (28 * c.loop-k.k) c.args.words.now in
     c.record_verdict.result ≡ textured_verdict (triangle_of c.args.mode words) true (held_in c.args.slots (word_at words 0)) c.args.m.now
 one c =
-    let is = rw (rest_is c.args.words.now (28 * c.loop-k.k)) at c.triangle_of-triangle.ensures in
+    let is = c.triangle_of-triangle.ensures ∙ ap (triangle_of c.args.mode) (rest_is c.args.words.now _) in
     rw is at (c.record_verdict.ensures ∙ record_is c.triangle_of-triangle.result c.args.slots c.args.m.now c.normal_matrix-inverse.ensures)
 
 pub loop-k-preserved : goal.loop-k-preserved
