@@ -40,7 +40,7 @@ fn run(out: &mut Stdout, alloc: Global, text: &[u8]) -> io::Result<()> {
                 words = given;
             }
             let (places, count) = &words;
-            let plan = Plan::of(&line.ops());
+            let plan = Plan::of_places(&line.ops());
             play(out, line, &plan, &places[..*count], &mut memories)?;
         }
     }

@@ -1,4 +1,7 @@
 // What a line's operations ask for: the call, what it is lent, and the state that it is given.
+ghost use Rattle.std.specs.Prelude.{◌≡◌, true};
+ghost use Rattle.state.specs.State.{fresh};
+
 use crate::line::Op;
 use crate::memories::LENT;
 use ieee::bits::float_of;
@@ -55,8 +58,22 @@ impl Plan {
         state: State::FRESH,
     };
 
+    // The operations, one after the other.
+    pub fn of(ops: &[Op]) -> Plan
+        ensures { result.reset ≡ true → result.state ≡ fresh }
+    {
+        let mut asked = Plan::USUAL;
+        for op in ops {
+            asked.take(*op);
+        }
+        if asked.reset {
+            asked.state = State::FRESH;
+        }
+        asked
+    }
+
     // The operations, in the order of their places.
-    pub fn of(ops: &[Option<Op>]) -> Plan {
+    pub fn of_places(ops: &[Option<Op>]) -> Plan {
         let mut plan = Plan::USUAL;
         for op in ops.iter().flatten() {
             plan.take(*op);
@@ -98,5 +115,37 @@ impl Plan {
             }
             _ => {}
         }
+    }
+}
+
+#[cfg(test)]
+mod tests {
+    use super::*;
+    use std::test::Fail;
+
+    // A reset takes no state, so that of the operations before it is gone.
+    #[test]
+    fn a_reset_leaves_the_fresh_state(rt: HostRuntime) -> Result<(), Fail> {
+        let begun = Op {
+            letter: b'b',
+            numbers: [1, 2, 3, 0, 0, 0],
+        };
+        let shorter = Op {
+            letter: b'n',
+            numbers: [1, 5, 0, 0, 0, 0],
+        };
+        let reset = Op {
+            letter: b'r',
+            numbers: [0; 6],
+        };
+        let feed = Plan::of(&[begun, shorter]);
+        assert_eq!(rt; feed.reset, false);
+        assert_eq!(rt; feed.lengths[1], 5);
+        assert_eq!(rt; feed.state.gathered, 2);
+        let plan = Plan::of(&[begun, shorter, reset]);
+        assert_eq!(rt; plan.reset, true);
+        assert_eq!(rt; plan.lengths[1], 5);
+        assert_eq!(rt; plan.state.gathered, 0);
+        Ok(())
     }
 }
