@@ -1,5 +1,6 @@
 // What a line's operations ask for: the call, what it is lent, and the state that it is given.
-ghost use Rattle.std.specs.Prelude.{◌≡◌, true};
+ghost use Rattle.std.specs.Prelude.{◌≡◌, ◌==◌, ◌||◌, true};
+ghost use Rattle.std.specs.List.{list_any};
 ghost use Rattle.state.specs.State.{fresh};
 
 use crate::line::Op;
@@ -59,8 +60,10 @@ impl Plan {
     };
 
     // The operations, one after the other.
+    // A reset is asked for by an r (114), wherever it is.
     pub fn of(ops: &[Op]) -> Plan
-        ensures { result.reset ≡ true → result.state ≡ fresh }
+        ensures reset { result.reset ≡ list_any (λ op. op.letter == 114) ops.now }
+        ensures state { result.reset ≡ true → result.state ≡ fresh }
     {
         let mut asked = Plan::USUAL;
         for op in ops {
@@ -86,7 +89,9 @@ impl Plan {
 
     // The letters are those of the table's head.
     // Stays: a letter is text, looked at here alone; an enum between would name each of them twice.
-    fn take(&mut self, op: Op) {
+    fn take(&mut self, op: Op)
+        ensures { self.new.reset ≡ (op.letter == 114 || self.old.reset) }
+    {
         let [a, b, c, d, e, f] = op.numbers;
         let state = &mut self.state;
         match op.letter {
